@@ -1,0 +1,26 @@
+//! The values that every part of a replicated folder speaks of: identifiers, versions and names.
+//!
+//! Read [`Gvsn`] and [`Uid`] first: a version of one database, and a file or directory by the
+//! version that made it. A contract sees a [`Guid`] as its 128-bit value and a [`Name`] as its
+//! UTF-16 units.
+#![tactic(auto)]
+
+mod bytes;
+mod guid;
+mod identifiers;
+mod kind;
+mod list;
+mod name;
+mod sum;
+mod ticket;
+mod version;
+
+pub use bytes::Bytes;
+pub use guid::Guid;
+pub use identifiers::{connection_of, content_set, database_of, replica_set};
+pub use kind::{Kind, MemberKind};
+pub use list::List;
+pub use name::{Name, NameError};
+pub use sum::Sum;
+pub use ticket::Ticket;
+pub use version::{Gvsn, Uid};

@@ -1,0 +1,11 @@
+//! Version vectors: sets of versions, kept and sent as intervals (the FRS_VERSION_VECTOR of [MS-FRS2]).
+//!
+//! A [`Vector`] is a set of versions. A contract sees it as its intervals, sorted, none empty, none
+//! touching, and says of each call which versions the intervals then cover.
+#![tactic(auto)]
+
+mod interval;
+mod vector;
+
+pub use interval::Interval;
+pub use vector::Vector;

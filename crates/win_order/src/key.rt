@@ -1,0 +1,15 @@
+// By what updates of one file are ordered.
+use frs_base::Gvsn;
+
+/// By what updates of one file or directory are ordered, the most telling field first.
+#[derive(Clone, Copy, Debug, PartialEq, Eq, PartialOrd, Ord)]
+pub struct Key {
+    /// Whose first contents the folder takes.
+    pub fence: u64,
+    /// When the update was made, as a moment or one past the clock that it replaced.
+    pub clock: u64,
+    /// When the file was made.
+    pub created: u64,
+    /// The version that made the update, which decides where all else is equal.
+    pub gvsn: Gvsn,
+}

@@ -1,0 +1,54 @@
+// What a version says of a file or directory.
+ghost use Rattle.std.specs.Prelude.{◌≡◌};
+ghost use Rattle.win_order.specs.Order.{key_of};
+
+use crate::Key;
+use frs_base::{Guid, Gvsn, Name, Sum, Uid};
+
+/// What one version says of one file or directory: the FRS_UPDATE of [MS-FRS2].
+#[derive(Debug, Drop)]
+pub struct Update {
+    /// False for a tombstone: the file was removed.
+    pub present: bool,
+    /// Whether its name lost against a matching one. Carried as it is.
+    pub name_conflict: bool,
+    /// File attributes: bit 0x10 is set exactly for a directory, and the others are carried.
+    pub attributes: u32,
+    /// Whose first contents the folder takes: 1 and 2 of a plain and a primary member's first
+    /// changes, 3 of all later ones.
+    pub fence: u64,
+    /// When it was made, as a moment or one past the clock that it replaced.
+    pub clock: u64,
+    /// The moment at which the file was made.
+    pub created: u64,
+    /// The content set that it belongs to.
+    pub set: Guid,
+    /// The sum of the file's marshalled form, all zero for a directory.
+    pub hash: Sum,
+    /// Similarity traits of the contents. Carried as they are.
+    pub similarity: [u8; 16],
+    /// The file or directory.
+    pub uid: Uid,
+    /// The version that made the update.
+    pub gvsn: Gvsn,
+    /// The directory that it is in.
+    pub parent: Uid,
+    /// Its name there.
+    pub name: Name,
+    /// Bit 0 would say that its stream is compressed, which is refused.
+    pub flags: u32,
+}
+
+impl Update {
+    /// By what it is ordered among the updates of its file.
+    pub fn key(&self) -> Key
+        ensures { result ≡ key_of self.now }
+    {
+        Key {
+            fence: self.fence,
+            clock: self.clock,
+            created: self.created,
+            gvsn: self.gvsn,
+        }
+    }
+}
