@@ -1,0 +1,25 @@
+use Rattle.std.proofs.Common.{◌≡◌, ◌∙◌, ap, sym, ℕ, List}
+use Rattle.dfsr.specs.Printed.{printed}
+use Rattle.dfsr.specs.Text.{Does, Unknown, refusal_words}
+use Rattle.dfsr.specs.declared.line.Line.TheVariants as lines
+use Rattle.dfsr.proofs.Members.{place_held, show_known, show_unknown}
+use Rattle.dfsr.proofs.Refusals.{said_of}
+use Rattle.dfsr.proofs.engine.Engine.show.Goals as goal
+
+pub returns-in-Some : goal.returns-in-Some
+returns-in-Some c = λ w s.
+    let members = c.args.self.now.members.items in
+    let name = c.args.name.now in
+    let held : place_held members name ≡ c.place_of.result =
+    ap (place_held members) (sym c.as_slice.ensures) ∙ ap (λ l. place_held l c.as_slice.result.now) (sym c.deref.ensures.value) ∙ sym c.place_of.ensures in
+    said_of c.empty_text.result _ (λ text. Does w (lines.Show name) text w) c.empty_text.ensures (show_known c.args.self.now w name _ s (held ∙ c.in-Some.is))
+
+pub returns-in-None : goal.returns-in-None
+returns-in-None c = λ w s.
+    let members = c.args.self.now.members.items in
+    let name = c.args.name.now in
+    let held : place_held members name ≡ c.place_of.result =
+    ap (place_held members) (sym c.as_slice.ensures) ∙ ap (λ l. place_held l c.as_slice.result.now) (sym c.deref.ensures.value) ∙ sym c.place_of.ensures in
+    let printed_name : c.text_of.result.now ≡ name = c.text_of.ensures ∙ c.as_slice-in-None.ensures in
+    let refused = rw printed_name at c.refused_unknown.ensures in
+    said_of c.refused_unknown.result _ (λ text. Does w (lines.Show name) text w) refused (show_unknown c.args.self.now w name s (held ∙ c.in-None.is))

@@ -1,0 +1,5 @@
+use Rattle.dfsr.proofs.Members.{every_line}
+use Rattle.dfsr.proofs.laws.every_line_prints.Goals as goal
+
+pub returns : goal.returns
+returns c = every_line

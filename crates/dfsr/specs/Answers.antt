@@ -1,0 +1,30 @@
+-- What each status says of the bytes read and the bytes written.
+use Rattle.std.specs.Prelude.{◌≡◌, ◌⊎◌, ◌<◌, ◌≤◌, ℕ, Bool, true, false, List, count_by, length}
+use Rattle.dfsr.specs.declared.line.Line.{Line}
+use Rattle.dfsr.specs.declared.line.Line.TheVariants.{Member, Show}
+use Rattle.dfsr.specs.Grammar.{HasBadRow, IsScript}
+use Rattle.dfsr.specs.Text.{Prints}
+
+-- a `member` line
+abbrev pub makes_member : Line → Bool
+makes_member (Member name kind) = true
+makes_member (Show name) = false
+
+-- a script of these lines, within 1,048,576 bytes and 8 `member` lines
+pub record IsProper (bytes : List ℕ) (lines : List Line) : Type 0 where
+  pub within : length bytes ≤ 1048576
+  pub script : IsScript bytes lines
+  pub members : count_by makes_member lines ≤ 8
+
+-- the text of a script
+abbrev pub IsText : List ℕ → List ℕ → Type 0
+IsText bytes text = (lines : List Line) × IsProper bytes lines × Prints lines text
+
+-- within the bytes, but a row is outside the grammar
+abbrev pub IsBad : List ℕ → Type 0
+IsBad bytes = (length bytes ≤ 1048576) × HasBadRow bytes
+
+-- more than 1,048,576 bytes, or a script within them of more than 8 `member` lines
+abbrev pub IsTooLarge : List ℕ → Type 0
+IsTooLarge bytes = (1048576 < length bytes)
+    ⊎ ((lines : List Line) × (length bytes ≤ 1048576) × IsScript bytes lines × (8 < count_by makes_member lines))

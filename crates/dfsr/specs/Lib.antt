@@ -1,0 +1,10 @@
+pub mod Grammar
+pub mod Records
+pub mod World
+pub mod Printed
+pub mod Text
+pub mod Answers
+pub mod Codes
+pub mod Reading
+pub mod Standing
+pub mod Laws
