@@ -5,3 +5,4 @@ pub mod Refusals
 pub mod Runs
 pub mod Members
 pub mod Causes
+pub mod Writing

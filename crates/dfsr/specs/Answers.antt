@@ -1,5 +1,7 @@
 -- What each status says of the bytes read and the bytes written.
 use Rattle.std.specs.Prelude.{◌≡◌, ◌⊎◌, ◌<◌, ◌≤◌, ℕ, Bool, true, false, List, count_by, length}
+use Rattle.std.specs.declared.option.Option.{Option}
+use Rattle.frs_io.specs.Told.{Takes, TakesSome}
 use Rattle.dfsr.specs.declared.line.Line.{Line}
 use Rattle.dfsr.specs.declared.line.Line.TheVariants.{Member, Show}
 use Rattle.dfsr.specs.Grammar.{HasBadRow, IsScript}
@@ -19,6 +21,22 @@ pub record IsProper (bytes : List ℕ) (lines : List Line) : Type 0 where
 -- the text of a script
 abbrev pub IsText : List ℕ → List ℕ → Type 0
 IsText bytes text = (lines : List Line) × IsProper bytes lines × Prints lines text
+
+-- a sink took what these lines print
+abbrev pub PrintsAll : List Line → Option (List ℕ) → Option (List ℕ) → Type 0
+PrintsAll lines old new = (text : List ℕ) × Prints lines text × Takes old new text
+
+-- a sink took a beginning of what these lines print
+abbrev pub PrintsSome : List Line → Option (List ℕ) → Option (List ℕ) → Type 0
+PrintsSome lines old new = (text : List ℕ) × Prints lines text × TakesSome old new text
+
+-- a sink took the text of these bytes
+abbrev pub WritesAll : List ℕ → Option (List ℕ) → Option (List ℕ) → Type 0
+WritesAll bytes old new = (text : List ℕ) × IsText bytes text × Takes old new text
+
+-- a sink took a beginning of the text of these bytes
+abbrev pub WritesSome : List ℕ → Option (List ℕ) → Option (List ℕ) → Type 0
+WritesSome bytes old new = (text : List ℕ) × IsText bytes text × TakesSome old new text
 
 -- within the bytes, but a row is outside the grammar
 abbrev pub IsBad : List ℕ → Type 0

@@ -8,10 +8,79 @@ pub mod laws;
 pub mod line;
 pub mod member;
 pub mod parse;
+pub mod script;
 pub mod status;
 
+use crate::script::script_main;
+use crate::status::Status;
+use frs_io::{StdSink, StdSource, WriteError, write_all};
+use std::io::ErrorKind;
 use std::process::ExitCode;
+use std::{env, io};
 
-fn main(_rt: HostRuntime) -> ExitCode {
-    ExitCode::from(0)
+const USAGE: &str = "usage: dfsr script < SCRIPT\n";
+
+const HELP: &str = "\
+Runs the members of a replicated folder, driven by a script.
+
+usage: dfsr script < SCRIPT
+
+Reads a script from standard input and writes what its lines print.
+Lines, of words parted by one space:
+  member M primary|plain   makes a member; M has 1 to 8 letters a to z
+  show M                   prints what a member covers, and its records
+Empty lines and lines that begin with # print nothing.
+
+  --help, --version        print this text, or the version
+
+Statuses: 0 done; 2 other words; 3 a line outside the grammar; 4 the input
+failed; 5 the output failed; 8 more than 1,048,576 bytes or 8 member lines;
+9 out of memory. After 2, 3, 4 and 8 nothing was written.
+";
+
+const VERSION: &str = "dfsr 0.1.0\n";
+
+/// The words behind the program's name.
+fn words_of(rt: &HostRuntime) -> io::Result<Vec<String>> {
+    let mut words = Vec::new(rt.alloc());
+    for word in env::args(rt)?.skip(1) {
+        words.push(word)?;
+    }
+    Ok(words)
+}
+
+/// Writes a text to standard output.
+fn tell(rt: &HostRuntime, text: &str) -> Status {
+    let mut out = StdSink::new(rt.stdout());
+    match write_all(rt.alloc(), &mut out, text.as_bytes()) {
+        Ok(()) => Status::Done,
+        Err(WriteError::Failed) => Status::WriteFault,
+        Err(WriteError::Memory) => Status::Memory,
+    }
+}
+
+/// Does what the words ask for.
+fn answer(rt: &HostRuntime, words: &[String]) -> Status {
+    if let [word] = words {
+        match word.as_str() {
+            "--help" => return tell(rt, HELP),
+            "--version" => return tell(rt, VERSION),
+            _ => {}
+        }
+    }
+    let mut input = StdSource::new(rt.stdin());
+    let mut out = StdSink::new(rt.stdout());
+    script_main(rt.alloc(), words, &mut input, &mut out)
+}
+
+fn main(rt: HostRuntime) -> ExitCode {
+    let status = match words_of(&rt) {
+        Ok(words) => answer(&rt, &words),
+        Err(error) if error.kind() == ErrorKind::OutOfMemory => Status::Memory,
+        Err(_) => Status::Usage,
+    };
+    if status == Status::Usage {
+        let _ = eprint!(rt; "{USAGE}");
+    }
+    ExitCode::from(status.code())
 }

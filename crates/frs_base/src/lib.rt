@@ -24,3 +24,6 @@ pub use name::{Name, NameError};
 pub use sum::Sum;
 pub use ticket::Ticket;
 pub use version::{Gvsn, Uid};
+
+#[cfg(test)]
+mod tests;

@@ -1,6 +1,5 @@
 ghost use Rattle.std.specs.Prelude.{◌≡◌, ◌<◌, ◌≤◌, [], OnOk, OnErr, string_bytes, string_len, nat_lt, if◌then◌else◌};
-ghost use Rattle.std.specs.Io.KnownBytes.{append_known};
-ghost use Rattle.frs_io.specs.Told.{Takes, TakesSome};
+ghost use Rattle.frs_io.specs.Told.{HandsOn, Takes, TakesSome};
 ghost use Rattle.frs_io.specs.Causes.{HasWriteCause};
 
 use crate::{Sink, WriteError};
@@ -26,7 +25,7 @@ pub fn write_all<K: Sink>(alloc: Global, sink: &mut K, bytes: &[u8]) -> Result<(
 /// Hands text on in pieces: writes what is pending once it has [`PIECE`] bytes, and empties it.
 /// Less is left pending.
 pub fn hand_on<K: Sink>(alloc: Global, sink: &mut K, pending: &mut String) -> Result<(), WriteError>
-    ensures ok { OnOk result (append_known (K.taken sink.new) (string_bytes pending.new) ≡ append_known (K.taken sink.old) (string_bytes pending.old)) }
+    ensures moved { OnOk result (HandsOn (K.taken sink.old) (K.taken sink.new) (string_bytes pending.old) (string_bytes pending.new)) }
     ensures left { OnOk result (string_bytes pending.new ≡ (if nat_lt (string_len pending.old) PIECE then string_bytes pending.old else [])) }
     ensures small { OnOk result (string_len pending.new < PIECE) }
     ensures due { OnErr result (PIECE ≤ string_len pending.old) }

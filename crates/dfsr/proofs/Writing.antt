@@ -1,0 +1,51 @@
+-- What a sink took of the text of some first lines.
+use Rattle.std.proofs.Common.{◌≡◌, ◌≤◌, ◌+◌, ℕ, List, [], ◌∷◌, ◌++◌, length, take, drop, sym, ap, ◌∙◌, subst, append_assoc, take-append-drop}
+use Rattle.std.proofs.lemmas.List.{take_all}
+use Rattle.std.specs.declared.option.Option.{Option}
+use Rattle.frs_io.specs.Told.{HandsOn, Takes, TakesSome}
+use Rattle.frs_io.proofs.Told.{Takes-TakesSome, Takes-trans, TakesSome-append, TakesSome-of_Takes}
+use Rattle.dfsr.specs.declared.line.Line.{Line}
+use Rattle.dfsr.specs.Answers.{PrintsAll, PrintsSome}
+use Rattle.dfsr.specs.Text.{Does, Run}
+use Rattle.dfsr.specs.World.{World, fresh_world}
+use Rattle.dfsr.proofs.Members.{run_goes_on}
+use Rattle.dfsr.proofs.Runs.{run_then_does}
+
+-- some of what the first lines print is some of what all print
+pub some_of_all : (lines : List Line) (i : ℕ) (old new : Option (List ℕ)) (said : List ℕ) (w : World) → Run fresh_world (take i lines) said w → TakesSome old new said → PrintsSome lines old new
+some_of_all lines i old new said w run some =
+    let (rest, last, whole) = run_goes_on (take i lines) (drop i lines) said w run in
+    (said ++ rest, (last, subst (λ ls. Run fresh_world ls (said ++ rest) last) (take-append-drop i lines) whole), TakesSome-append old new said rest some)
+
+-- the front of what was said is some of it
+pub front_is_some : (old new : Option (List ℕ)) (said front pending : List ℕ) → Takes old new front → said ≡ front ++ pending → TakesSome old new said
+front_is_some old new said front pending takes split =
+    subst (TakesSome old new) (sym split) (TakesSome-append old new front pending (TakesSome-of_Takes old new front takes))
+
+-- the first lines, and one line more
+pub next_line : (lines : List Line) (i : ℕ) (line : Line) (said : List ℕ) (w : World) (text : List ℕ) (new : World) → take (i + 1) lines ≡ take i lines ++ line ∷ []
+    → Run fresh_world (take i lines) said w → Does w line text new → Run fresh_world (take (i + 1) lines) (said ++ text) new
+next_line lines i line said w text new more run does =
+    subst (λ ls. Run fresh_world ls (said ++ text) new) (sym more) (run_then_does fresh_world (take i lines) said w line text new run does)
+
+-- what is said next is pending
+pub pending_grows : (said front pending text grown : List ℕ) → said ≡ front ++ pending → grown ≡ pending ++ text → said ++ text ≡ front ++ grown
+pending_grows said front pending text grown split more =
+    ap (λ l. l ++ text) split ∙ append_assoc front pending text ∙ ap (λ l. front ++ l) (sym more)
+
+-- a piece that wasn't wholly taken
+pub piece_cut : (old mid new : Option (List ℕ)) (said front pending : List ℕ) → Takes old mid front → said ≡ front ++ pending → TakesSome mid new pending → TakesSome old new said
+piece_cut old mid new said front pending takes split some =
+    subst (TakesSome old new) (sym split) (Takes-TakesSome old mid new front pending takes some)
+
+-- a piece that was handed on
+pub piece_moved : (old mid new : Option (List ℕ)) (said front before after : List ℕ) → Takes old mid front → said ≡ front ++ before → HandsOn mid new before after
+    → (more : List ℕ) × Takes old new more × (said ≡ more ++ after)
+piece_moved old mid new said front before after takes split (moved, taken, parted) =
+    (front ++ moved, Takes-trans old mid new front moved takes taken, split ∙ ap (λ l. front ++ l) parted ∙ sym (append_assoc front moved after))
+
+-- what was pending at the end was taken too
+pub all_taken : (lines : List Line) (i : ℕ) (old mid new : Option (List ℕ)) (said front pending : List ℕ) (w : World) → length lines ≤ i → Run fresh_world (take i lines) said w
+    → Takes old mid front → said ≡ front ++ pending → Takes mid new pending → PrintsAll lines old new
+all_taken lines i old mid new said front pending w past run takes split taken =
+    (said, (w, subst (λ ls. Run fresh_world ls said w) (take_all i lines past) run), subst (Takes old new) (sym split) (Takes-trans old mid new front pending takes taken))

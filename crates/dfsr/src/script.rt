@@ -1,0 +1,117 @@
+// A script, from the bytes read to the bytes written.
+ghost use Rattle.std.specs.Prelude.{◌≡◌, ◌⊎◌, ◌↔◌, ◌≤◌, [], ◌∷◌, All, IfSome, IsTrue, OnErr, OnOk, codes, count_by, map, string_bytes};
+ghost use Rattle.std.specs.Io.KnownBytes.{IsAtEnd};
+ghost use Rattle.frs_io.specs.Causes.{HasWriteCause, Rose};
+ghost use Rattle.dfsr.specs.Answers.{IsBad, IsTooLarge, PrintsAll, PrintsSome, WritesAll, WritesSome, makes_member};
+ghost use Rattle.dfsr.specs.Grammar.{IsLine};
+
+use crate::engine::Engine;
+use crate::line::Line;
+use crate::parse::{ParseError, parse};
+use crate::status::Status;
+use frs_io::{ReadError, Sink, Source, WriteError, hand_on, read_to_limit, write_all};
+use std::alloc::Global;
+
+/// The most bytes that a script has.
+const BYTES: usize = 1_048_576;
+
+/// The most `member` lines that a script has.
+const MEMBERS: usize = 8;
+
+fn are_script_words(words: &[String]) -> bool
+    ensures { IsTrue result ↔ (map string_bytes words.now ≡ codes "script" ∷ []) }
+{
+    match words {
+        [word] => word.as_str() == "script",
+        _ => false,
+    }
+}
+
+fn member_count(lines: &[Line]) -> usize
+    ensures { result ≡ count_by makes_member lines.now }
+{
+    lines
+        .iter()
+        .filter(|line| matches!(line, Line::Member { .. }))
+        .count()
+}
+
+/// Does the lines, and writes what they print in pieces.
+fn run_lines<K: Sink>(alloc: Global, lines: &[Line], out: &mut K) -> Result<(), WriteError>
+    requires { All IsLine lines.now }
+    ensures ok { OnOk result (PrintsAll lines.now (K.taken out.old) (K.taken out.new)) }
+    ensures err { OnErr result (PrintsSome lines.now (K.taken out.old) (K.taken out.new)) }
+    ensures cause { HasWriteCause (K.faults out.old) (K.faults out.new) result }
+{
+    let mut engine = Engine::new(alloc);
+    let mut pending = String::new(alloc);
+    for line in lines {
+        let text = engine.run(alloc, line)?;
+        pending.push_str(text.as_str())?;
+        hand_on(alloc, out, &mut pending)?;
+    }
+    write_all(alloc, out, pending.as_bytes())
+}
+
+/// Reads a script to its end, does its lines and writes what they print.
+///
+/// `words` are those of the command line behind the program's name. A script that is too large or
+/// outside the grammar does nothing and writes nothing: bytes are counted before rows are looked
+/// at, and rows before members are counted.
+pub fn script_main<S: Source, K: Sink>(
+    alloc: Global,
+    words: &[String],
+    input: &mut S,
+    out: &mut K,
+) -> Status
+    // The one word `script` is wanted, and nothing is read without it.
+    ensures usage { (result ≡ Status.Usage) ↔ ((map string_bytes words.now ≡ codes "script" ∷ []) → ⊥) }
+    ensures unread { (result ≡ Status.Usage) → S.left input.new ≡ S.left input.old }
+
+    // When it is done, all was read, and the text of the bytes read was written.
+    ensures end { result ≡ Status.Done → IsAtEnd (S.left input.new) }
+    ensures done { result ≡ Status.Done → IfSome (S.left input.old) (λ bytes. WritesAll bytes (K.taken out.old) (K.taken out.new)) }
+
+    // When it is cut short, what was written is a beginning of that text, if only nothing.
+    ensures cut_short { (result ≡ Status.WriteFault) → IfSome (S.left input.old) (λ bytes. WritesSome bytes (K.taken out.old) (K.taken out.new)) }
+    ensures short_of_memory { (result ≡ Status.Memory) → IfSome (S.left input.old) (λ bytes.
+        (K.taken out.new ≡ K.taken out.old) ⊎ WritesSome bytes (K.taken out.old) (K.taken out.new)) }
+
+    // The causes of the other answers, after which nothing was written.
+    ensures bad { result ≡ Status.ScriptBad → IfSome (S.left input.old) IsBad }
+    ensures large { result ≡ Status.TooLarge → IfSome (S.left input.old) IsTooLarge }
+    ensures read_fault { result ≡ Status.ReadFault → Rose (S.faults input.old) (S.faults input.new) }
+    ensures write_fault { result ≡ Status.WriteFault → Rose (K.faults out.old) (K.faults out.new) }
+    ensures unwritten { (result ≡ Status.Usage) ⊎ (result ≡ Status.ScriptBad) ⊎ (result ≡ Status.ReadFault) ⊎ (result ≡ Status.TooLarge)
+        → K.taken out.new ≡ K.taken out.old }
+
+    // No count falls.
+    ensures read_later { S.faults input.old ≤ S.faults input.new }
+    ensures write_later { K.faults out.old ≤ K.faults out.new }
+{
+    if !are_script_words(words) {
+        return Status::Usage;
+    }
+    let bytes = match read_to_limit(alloc, input, BYTES) {
+        Ok(bytes) => bytes,
+        Err(ReadError::Failed) => return Status::ReadFault,
+        Err(ReadError::TooLong) => return Status::TooLarge,
+        Err(ReadError::Memory) => return Status::Memory,
+    };
+    let lines = match parse(alloc, &bytes) {
+        Ok(lines) => lines,
+        Err(ParseError::Bad) => return Status::ScriptBad,
+        Err(ParseError::Memory) => return Status::Memory,
+    };
+    if member_count(&lines) > MEMBERS {
+        return Status::TooLarge;
+    }
+    match run_lines(alloc, &lines, out) {
+        Ok(()) => Status::Done,
+        Err(WriteError::Failed) => Status::WriteFault,
+        Err(WriteError::Memory) => Status::Memory,
+    }
+}
+
+#[cfg(test)]
+mod tests;

@@ -1,0 +1,188 @@
+use super::script_main;
+use crate::status::Status;
+use frs_io::{MemSink, MemSource};
+use std::alloc::Global;
+use std::process::Abort;
+use std::test::Fail;
+
+/// Runs `dfsr` with some words over a script; the input and the output fail at the given calls.
+fn ran(
+    alloc: Global,
+    words: &[&str],
+    script: &[u8],
+    reads: Vec<u64>,
+    writes: Vec<u64>,
+) -> Result<(Status, MemSink), Fail> {
+    let mut owned = Vec::new(alloc);
+    for word in words {
+        owned.push(String::from_str(alloc, word)?)?;
+    }
+    let mut input = MemSource::new(Vec::from_slice(alloc, script)?, reads);
+    let mut out = MemSink::new(alloc, writes);
+    let status = script_main(alloc, &owned, &mut input, &mut out);
+    Ok((status, out))
+}
+
+/// Runs a script over an input and an output that don't fail.
+fn script(alloc: Global, text: &[u8]) -> Result<(Status, MemSink), Fail> {
+    ran(alloc, &["script"], text, Vec::new(alloc), Vec::new(alloc))
+}
+
+/// That a script ends with this status and writes this text.
+fn expect(
+    rt: &impl Abort,
+    alloc: Global,
+    text: &str,
+    status: Status,
+    written: &str,
+) -> Result<(), Fail> {
+    let (ended, out) = script(alloc, text.as_bytes())?;
+    assert_eq!(rt; ended, status, "{text:?}");
+    assert_eq!(rt; out.bytes(), written.as_bytes(), "{text:?}");
+    Ok(())
+}
+
+/// A text, this many times.
+fn repeated(alloc: Global, text: &str, times: usize) -> Result<String, Fail> {
+    let mut all = String::new(alloc);
+    for _ in 0..times {
+        all.push_str(text)?;
+    }
+    Ok(all)
+}
+
+#[test]
+fn the_empty_script_writes_nothing(rt: HostRuntime) -> Result<(), Fail> {
+    expect(&rt, rt.alloc(), "", Status::Done, "")
+}
+
+#[test]
+fn short_scripts(rt: HostRuntime) -> Result<(), Fail> {
+    let rows = [
+        ("\n", ""),
+        ("# nothing\n\n#\n", ""),
+        ("member a primary\n", "ok\n"),
+        ("member a primary", "ok\n"),
+        ("member a plain\nmember b plain\n", "ok\nok\n"),
+        ("show a\n", "refused 1 unknown a\n"),
+        ("member a plain\nshow a\n", "ok\nvector empty\n"),
+        (
+            "member a plain\nmember a primary\n",
+            "ok\nrefused 2 exists a\n",
+        ),
+        (
+            "member abcdefgh plain\nshow abcdefgh\n",
+            "ok\nvector empty\n",
+        ),
+        (
+            "show b\n\nmember b plain\n# \u{e9}\nshow b\nshow a",
+            "refused 1 unknown b\nok\nvector empty\nrefused 1 unknown a\n",
+        ),
+    ];
+    for (text, written) in rows {
+        expect(&rt, rt.alloc(), text, Status::Done, written)?;
+    }
+    Ok(())
+}
+
+#[test]
+fn rows_outside_the_grammar(rt: HostRuntime) -> Result<(), Fail> {
+    let rows = [
+        "member a primary\nfrob\n",
+        "show\n",
+        "show a \n",
+        " show a\n",
+        "show  a\n",
+        "show a\r\n",
+        "show A\n",
+        "show abcdefghi\n",
+        "show \n",
+        "member a\n",
+        "member a second\n",
+        "member a plain x\n",
+        " # x\n",
+        "show\ta\n",
+    ];
+    for text in rows {
+        expect(&rt, rt.alloc(), text, Status::ScriptBad, "")?;
+    }
+    let (ended, out) = script(rt.alloc(), b"member a plain\n# \xff\n")?;
+    assert_eq!(rt; ended, Status::ScriptBad);
+    assert_eq!(rt; out.bytes(), b"".as_slice());
+    Ok(())
+}
+
+#[test]
+fn a_failing_first_and_second_read(rt: HostRuntime) -> Result<(), Fail> {
+    let alloc = rt.alloc();
+    for call in [1, 2] {
+        let (ended, out) = ran(
+            alloc,
+            &["script"],
+            b"member a plain\n",
+            vec![in alloc; call]?,
+            Vec::new(alloc),
+        )?;
+        assert_eq!(rt; ended, Status::ReadFault);
+        assert_eq!(rt; out.bytes(), b"".as_slice());
+    }
+    Ok(())
+}
+
+#[test]
+fn a_sink_that_fails_leaves_a_beginning(rt: HostRuntime) -> Result<(), Fail> {
+    let alloc = rt.alloc();
+    let text = repeated(alloc, "show a\n", 10_000)?;
+    let whole = repeated(alloc, "refused 1 unknown a\n", 10_000)?;
+    let pieces = [65_540, 131_080, 196_620, 200_000];
+    let mut taken = 0;
+    for (at, piece) in pieces.iter().enumerate() {
+        let failing = vec![in alloc; at as u64 + 1]?;
+        let (ended, out) = ran(
+            alloc,
+            &["script"],
+            text.as_bytes(),
+            Vec::new(alloc),
+            failing,
+        )?;
+        assert_eq!(rt; ended, Status::WriteFault);
+        assert_eq!(rt; out.bytes().len(), taken);
+        assert!(rt; whole.as_bytes().starts_with(out.bytes()));
+        taken = *piece;
+    }
+    let (ended, out) = script(alloc, text.as_bytes())?;
+    assert_eq!(rt; ended, Status::Done);
+    assert_eq!(rt; out.bytes(), whole.as_bytes());
+    Ok(())
+}
+
+#[test]
+fn nine_member_lines(rt: HostRuntime) -> Result<(), Fail> {
+    let alloc = rt.alloc();
+    let eight = repeated(alloc, "member a plain\n", 8)?;
+    let (ended, _) = script(alloc, eight.as_bytes())?;
+    assert_eq!(rt; ended, Status::Done);
+    let nine = repeated(alloc, "member a plain\n", 9)?;
+    expect(&rt, alloc, nine.as_str(), Status::TooLarge, "")
+}
+
+#[test]
+fn more_bytes_than_a_script_has(rt: HostRuntime) -> Result<(), Fail> {
+    let alloc = rt.alloc();
+    let most = repeated(alloc, "#", 1_048_576)?;
+    expect(&rt, alloc, most.as_str(), Status::Done, "")?;
+    let more = repeated(alloc, "x", 1_048_577)?;
+    expect(&rt, alloc, more.as_str(), Status::TooLarge, "")
+}
+
+#[test]
+fn other_words(rt: HostRuntime) -> Result<(), Fail> {
+    let alloc = rt.alloc();
+    let rows: [&[&str]; 4] = [&[], &["script", "x"], &["Script"], &["--help"]];
+    for words in rows {
+        let (ended, out) = ran(alloc, words, b"frob\n", Vec::new(alloc), Vec::new(alloc))?;
+        assert_eq!(rt; ended, Status::Usage);
+        assert_eq!(rt; out.bytes(), b"".as_slice());
+    }
+    Ok(())
+}

@@ -1,0 +1,138 @@
+use crate::{
+    Bytes, Guid, Gvsn, List, Name, NameError, Uid, connection_of, content_set, database_of,
+    replica_set,
+};
+use std::alloc::Global;
+use std::process::Abort;
+use std::test::Fail;
+
+fn name_of(alloc: Global, text: &str) -> Result<Name, Fail> {
+    let mut units = Vec::new(alloc);
+    for byte in text.as_bytes() {
+        units.push(u16::from(*byte))?;
+    }
+    Ok(Name::from_units(alloc, &units)?)
+}
+
+#[test]
+fn identifiers_spell_their_texts(rt: HostRuntime) -> Result<(), Fail> {
+    let rows = [
+        (database_of(1), "d0000000-0000-4000-8000-000000000001"),
+        (database_of(8), "d0000000-0000-4000-8000-000000000008"),
+        (content_set(), "c0000000-0000-4000-8000-000000000001"),
+        (replica_set(), "e0000000-0000-4000-8000-000000000001"),
+        (connection_of(2, 1), "f0000000-0000-4000-8000-000000020001"),
+        (connection_of(8, 3), "f0000000-0000-4000-8000-000000080003"),
+    ];
+    for (guid, text) in rows {
+        assert_eq!(rt; guid.to_string(rt.alloc())?.as_str(), text);
+    }
+    Ok(())
+}
+
+#[test]
+fn guids_are_ordered_by_their_values(rt: HostRuntime) {
+    let low = Guid::of_number(0xff);
+    let high = Guid::of_number(1 << 120);
+    assert!(rt; low < high);
+    let first = Gvsn {
+        db: low,
+        version: 12,
+    };
+    let second = Gvsn {
+        db: high,
+        version: 9,
+    };
+    assert!(rt; first < second);
+    let root = Uid {
+        db: low,
+        version: 1,
+    };
+    assert!(rt;
+        root < Uid {
+            db: low,
+            version: 2
+        }
+    );
+}
+
+#[test]
+fn names_of_units(rt: HostRuntime) -> Result<(), Fail> {
+    let alloc = rt.alloc();
+    let most = vec![in alloc; 0x78; 255]?;
+    let name = Name::from_units(alloc, &most)?;
+    assert_eq!(rt; name.units(), most.as_slice());
+    let more = vec![in alloc; 0x78; 256]?;
+    assert_eq!(rt;
+        Name::from_units(alloc, &more),
+        Err(NameError::NameBad { at: 256 })
+    );
+    assert_eq!(rt;
+        Name::from_units(alloc, &[]),
+        Err(NameError::NameBad { at: 0 })
+    );
+    let rows: [(&[u16], usize); 4] = [
+        (&[0x2f], 0),
+        (&[0x61, 0], 1),
+        (&[0x61, 0x5c, 0x2f], 1),
+        (&[0x61, 0x62, 0x2f, 0], 2),
+    ];
+    for (units, at) in rows {
+        assert_eq!(rt;
+            Name::from_units(alloc, units),
+            Err(NameError::NameBad { at })
+        );
+    }
+    Ok(())
+}
+
+fn expect_match(
+    rt: &impl Abort,
+    alloc: Global,
+    a: &str,
+    b: &str,
+    wanted: bool,
+) -> Result<(), Fail> {
+    assert_eq!(rt;
+        name_of(alloc, a)?.matches(&name_of(alloc, b)?),
+        wanted,
+        "{a} {b}"
+    );
+    Ok(())
+}
+
+#[test]
+fn names_match_without_case(rt: HostRuntime) -> Result<(), Fail> {
+    let rows = [
+        ("x", "X", true),
+        ("Az", "aZ", true),
+        ("a", "b", false),
+        ("a", "ab", false),
+        ("@", "`", false),
+        ("[", "{", false),
+    ];
+    for (a, b, wanted) in rows {
+        expect_match(&rt, rt.alloc(), a, b, wanted)?;
+    }
+    Ok(())
+}
+
+#[test]
+fn a_copied_name_is_equal(rt: HostRuntime) -> Result<(), Fail> {
+    let name = name_of(rt.alloc(), "Name")?;
+    assert!(rt; name.copy(rt.alloc())? == name);
+    assert!(rt; name_of(rt.alloc(), "name")? != name);
+    Ok(())
+}
+
+#[test]
+fn wrapped_vectors_come_back(rt: HostRuntime) -> Result<(), Fail> {
+    let alloc = rt.alloc();
+    let bytes = Bytes::of(vec![in alloc; 1, 2, 3]?);
+    assert!(rt; bytes == Bytes::of(vec![in alloc; 1, 2, 3]?));
+    assert_eq!(rt; bytes.into_vec().as_slice(), [1, 2, 3].as_slice());
+    let names = List::of(vec![in alloc; database_of(1), database_of(2)]?);
+    assert!(rt; names != List::of(vec![in alloc; database_of(2), database_of(1)]?));
+    assert_eq!(rt; names.into_vec().len(), 2);
+    Ok(())
+}
