@@ -10,6 +10,8 @@ mod reading;
 mod sink;
 mod source;
 mod standard;
+#[cfg(test)]
+mod tests;
 mod writing;
 
 pub use memory::{MemSink, MemSource, SteadySink, SteadySource};

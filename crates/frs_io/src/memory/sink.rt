@@ -1,4 +1,7 @@
-ghost use Rattle.std.specs.Prelude.{◌≡◌, ℕ, [], Some};
+ghost use Rattle.std.specs.Prelude.{◌≡◌, ◌<◌, ◌↔◌, ◌++◌, ℕ, [], Some, take, length, Contains, IfOk, IsErrOf, MatchResult};
+ghost use Rattle.std.specs.Io.{WritesAtMost};
+ghost use Rattle.frs_io.specs.Causes.{raised, HasWriteCause};
+ghost use Rattle.frs_io.specs.Memory.{CountsCall};
 
 use crate::memory::schedule::Schedule;
 use crate::{Sink, WriteError};
@@ -103,7 +106,16 @@ impl Sink for MemSink {
 
     ghost faults = { λ s. s.faults };
 
-    fn write(&mut self, alloc: Global, bytes: &[u8]) -> Result<usize, WriteError> {
+    fn write(&mut self, alloc: Global, bytes: &[u8]) -> Result<usize, WriteError>
+        ensures bound { WritesAtMost result bytes.now }
+        ensures some { IfOk result (λ n. 0 < length bytes.now → 0 < n) }
+        ensures taken { MatchResult result
+            (λ n. self.new.bytes ≡ self.old.bytes ++ take n bytes.now)
+            (λ _. self.new.bytes ≡ self.old.bytes) }
+        ensures fails { IsErrOf result WriteError.Failed ↔ Contains self.old.failing (raised self.old.calls) }
+        ensures counted { CountsCall self.old self.new }
+        ensures cause { HasWriteCause self.old.faults self.new.faults result }
+    {
         self.schedule.call()?;
         self.steady.write(alloc, bytes)
     }

@@ -1,4 +1,7 @@
-ghost use Rattle.std.specs.Prelude.{◌≡◌, ℕ, Some};
+ghost use Rattle.std.specs.Prelude.{◌≡◌, ◌<◌, ◌↔◌, ◌++◌, ℕ, [], Some, take, length, Contains, IfOk, IsErr, MatchResult};
+ghost use Rattle.std.specs.Io.{ReadsAtMost};
+ghost use Rattle.frs_io.specs.Causes.{raised, HasCause};
+ghost use Rattle.frs_io.specs.Memory.{CountsCall};
 
 use crate::memory::schedule::Schedule;
 use crate::{Failed, Source};
@@ -91,7 +94,16 @@ impl Source for MemSource {
 
     ghost faults = { λ s. s.faults };
 
-    fn read(&mut self, buf: &mut [u8]) -> Result<usize, Failed> {
+    fn read(&mut self, buf: &mut [u8]) -> Result<usize, Failed>
+        ensures bound { ReadsAtMost result buf.new }
+        ensures given { MatchResult result
+            (λ n. self.old.bytes ≡ take n buf.new ++ self.new.bytes)
+            (λ _. self.new.bytes ≡ self.old.bytes) }
+        ensures end { IfOk result (λ n. n ≡ 0 → 0 < length buf.new → self.new.bytes ≡ []) }
+        ensures fails { IsErr result ↔ Contains self.old.failing (raised self.old.calls) }
+        ensures counted { CountsCall self.old self.new }
+        ensures cause { HasCause self.old.faults self.new.faults result }
+    {
         self.schedule.call()?;
         self.steady.read(buf)
     }
