@@ -1,20 +1,19 @@
 -- The members of an engine and those of the world that it stands for.
-use Rattle.std.proofs.Common.{◌≡◌, ◌⊎◌, inl, inr, ℕ, suc, zero, Bool, true, false, cond, List, [], ◌∷◌, ◌++◌, refl, sym, ap, ◌∙◌, subst, MatchOption, Option, Some, None, bytes_eq, length, arith, ◌<◌, get_or}
-use Rattle.std.specs.Prelude.{codes, is_some, map, position, slice_get, string_bytes}
+use Rattle.std.proofs.Common.{◌≡◌, ℕ, suc, zero, Bool, true, false, cond, List, [], ◌∷◌, ◌++◌, refl, sym, ap, ◌∙◌, subst, MatchOption, Option, Some, None, bytes_eq, length, arith, ◌<◌}
+use Rattle.std.specs.Prelude.{codes, is_some, position, slice_get, string_bytes}
 use Rattle.std.specs.List.{AllZip}
 use Rattle.std.proofs.lemmas.List.Quantifiers.{position-Some}
 use Rattle.frs_base.specs.declared.version.Gvsn.{Gvsn}
 use Rattle.frs_base.specs.declared.kind.MemberKind.{MemberKind}
 use Rattle.win_order.specs.declared.update.Update.{Update}
-use Rattle.win_order.specs.Order.{Beats}
 use Rattle.dfsr.specs.declared.member.Member.{Member as Held}
 use Rattle.dfsr.specs.declared.engine.Engine.{Engine}
 use Rattle.dfsr.specs.declared.line.Line.{Line}
 use Rattle.dfsr.specs.declared.line.Line.TheVariants as lines
-use Rattle.dfsr.specs.Records.{AreWinners, Covered, In, IsWinner}
-use Rattle.dfsr.specs.World.{Member, World, fresh_member, fresh_world, names_of, place_of, with_member}
+use Rattle.dfsr.specs.Records.{AreWinners, Covered}
+use Rattle.dfsr.specs.World.{Member, World, fresh_member, fresh_world, place_of, with_member}
 use Rattle.dfsr.specs.Printed.{printed}
-use Rattle.dfsr.specs.Text.{Acts, Does, Exists, Run, Shows, Unknown, first_refusal, refusal_words}
+use Rattle.dfsr.specs.Text.{Acts, Does, Exists, Run, Shows, Unknown, refusal_words}
 use Rattle.dfsr.specs.Standing.{MemberStands, Stands}
 use Rattle.dfsr.proofs.Pairs.{zip_at, zip_position, zip_push}
 use Rattle.dfsr.proofs.Refusals.{acts_if, acts_unless, refused_if, refused_unless}

@@ -1,5 +1,5 @@
 -- Two lists whose items stand for each other, in order.
-use Rattle.std.proofs.Common.{◌≡◌, ◌+◌, ℕ, zero, suc, Bool, cond, not, ltb, List, [], ◌∷◌, ◌++◌, length, map, refl, ap, subst, Option, Some, None}
+use Rattle.std.proofs.Common.{◌≡◌, ◌+◌, ℕ, zero, suc, Bool, cond, not, ltb, List, [], ◌∷◌, ◌++◌, length, map, refl, ap, subst, Some, None}
 use Rattle.std.specs.Prelude.{position, slice_get}
 use Rattle.std.specs.List.{AllZip, position_or_len}
 

@@ -1,5 +1,5 @@
 -- What each status says of the bytes read and the bytes written.
-use Rattle.std.specs.Prelude.{◌≡◌, ◌⊎◌, ◌<◌, ◌≤◌, ℕ, Bool, true, false, List, count_by, length}
+use Rattle.std.specs.Prelude.{◌⊎◌, ◌<◌, ◌≤◌, ℕ, Bool, true, false, List, count_by, length}
 use Rattle.std.specs.declared.option.Option.{Option}
 use Rattle.frs_io.specs.Told.{Takes, TakesSome}
 use Rattle.dfsr.specs.declared.line.Line.{Line}

@@ -1,7 +1,7 @@
 -- What holds of every script.
 use Rattle.std.specs.Prelude.{ℕ, List}
 use Rattle.dfsr.specs.declared.line.Line.{Line}
-use Rattle.dfsr.specs.Answers.{IsBad, IsProper, IsText, IsTooLarge}
+use Rattle.dfsr.specs.Answers.{IsBad, IsProper, IsTooLarge}
 use Rattle.dfsr.specs.Text.{Does, Run}
 use Rattle.dfsr.specs.World.{World, fresh_world}
 

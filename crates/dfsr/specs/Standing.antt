@@ -2,7 +2,6 @@
 use Rattle.std.specs.Prelude.{◌≡◌, ℕ, false, List, [], map, string_bytes}
 use Rattle.std.specs.List.{AllZip}
 use Rattle.frs_base.specs.declared.version.Gvsn.{Gvsn}
-use Rattle.win_order.specs.declared.update.Update.{Update}
 use Rattle.dfsr.specs.World.{Member, World}
 use Rattle.dfsr.specs.declared.member.Member.{Member as Held}
 use Rattle.dfsr.specs.declared.engine.Engine.{Engine}

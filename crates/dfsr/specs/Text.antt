@@ -1,5 +1,5 @@
 -- The text of a script: what its lines do to the world, and what they print.
-use Rattle.std.specs.Prelude.{◌≡◌, ℕ, Bool, List, [], ◌∷◌, ◌++◌, MatchOption, Option, Some, None, codes, flat_map, if◌then◌else◌, is_some}
+use Rattle.std.specs.Prelude.{◌≡◌, ℕ, List, [], ◌∷◌, ◌++◌, MatchOption, Option, Some, None, codes, flat_map, if◌then◌else◌, is_some}
 use Rattle.version_vector.specs.Versions.{IsCanonical, covers}
 use Rattle.version_vector.specs.declared.interval.Interval.{Interval}
 use Rattle.frs_base.specs.declared.version.Gvsn.{Gvsn}

@@ -1,5 +1,5 @@
 -- The members of a run, and all that they ever recorded.
-use Rattle.std.specs.Prelude.{◌≡◌, ℕ, ◌+◌, Bool, false, List, [], ◌∷◌, ◌++◌, Option, Some, bytes_eq, map, position, slice_get}
+use Rattle.std.specs.Prelude.{◌≡◌, ℕ, Bool, false, List, [], ◌∷◌, ◌++◌, Option, Some, bytes_eq, map, position, slice_get}
 use Rattle.frs_base.specs.declared.version.Gvsn.{Gvsn}
 use Rattle.frs_base.specs.declared.kind.MemberKind.{MemberKind}
 use Rattle.win_order.specs.declared.update.Update.{Update}

@@ -1,7 +1,6 @@
 -- How steps on told bytes are joined.
-use Rattle.std.proofs.Common.{◌≡◌, ℕ, ◌+◌, Bool, true, false, if◌then◌else◌, List, [], ◌++◌, length, take, drop, None, Some, IfSome, refl, sym, ap, ◌∙◌, subst, append_assoc, append-nil, take-append-drop}
+use Rattle.std.proofs.Common.{◌≡◌, ℕ, ◌+◌, List, [], ◌++◌, length, take, drop, None, Some, IfSome, refl, sym, ap, ◌∙◌, subst, append_assoc, append-nil, take-append-drop}
 use Rattle.std.proofs.Math.Seq.{take-append-add, take-append_seam, take-length, drop-append_seam}
-use Rattle.std.proofs.lemmas.List.{append_cancel_right}
 use Rattle.std.specs.declared.option.Option.{Option}
 use Rattle.std.specs.Option.{option_map}
 use Rattle.std.specs.Io.KnownBytes.{prepend_known, append_known, IsAtEnd}
@@ -49,23 +48,6 @@ TakesSome-append old new xs ys (n, some) =
     let same : take n xs ≡ take (length (take n xs)) (xs ++ ys) =
     sym (ap (take (length (take n xs))) parts ∙ take-append_seam (take n xs) (drop n xs ++ ys)) in
     (length (take n xs), some ∙ ap (append_known old) same)
-
-pub append_known-cancel : (a b : Option (List ℕ)) (ys : List ℕ) → append_known a ys ≡ append_known b ys → a ≡ b
-append_known-cancel None None ys same = refl
-append_known-cancel None (Some zs) ys same = cc
-append_known-cancel (Some xs) None ys same = cc
-append_known-cancel (Some xs) (Some zs) ys same =
-    let alike : xs ++ ys ≡ zs ++ ys = cc in ap Some (append_cancel_right xs zs ys alike)
-
--- what `hand_on` took and what it left pending are what was pending
-pub Takes-of_handed : (old new : Option (List ℕ)) (pending rest : List ℕ) (short : Bool) → append_known new rest ≡ append_known old pending → rest ≡ (if short then pending else [])
-    → (front : List ℕ) × (pending ≡ front ++ rest) × Takes old new front
-Takes-of_handed old new pending rest true handed left =
-    let same : new ≡ old = append_known-cancel new old pending (ap (append_known new) (sym left) ∙ handed) in
-    ([], sym left, same ∙ Takes-nil old)
-Takes-of_handed old new pending rest false handed left =
-    let none : append_known new [] ≡ append_known new rest = ap (append_known new) (sym left) in
-    (pending, sym (append-nil pending) ∙ ap (λ l. pending ++ l) (sym left), Takes-nil new ∙ none ∙ handed)
 
 -- ---- sources
 

@@ -1,6 +1,5 @@
-use Rattle.std.proofs.Common.{◌≡◌, ◌∙◌, ap, sym, ℕ, List}
-use Rattle.dfsr.specs.Printed.{printed}
-use Rattle.dfsr.specs.Text.{Does, Unknown, refusal_words}
+use Rattle.std.proofs.Common.{◌≡◌, ◌∙◌, ap, sym}
+use Rattle.dfsr.specs.Text.{Does}
 use Rattle.dfsr.specs.declared.line.Line.TheVariants as lines
 use Rattle.dfsr.proofs.Members.{place_held, show_known, show_unknown}
 use Rattle.dfsr.proofs.Refusals.{said_of}
