@@ -1,5 +1,6 @@
 pub mod GuidBytes
 pub mod Identifiers
+pub mod Lazy
 pub mod Names
 pub mod NameErrors
 pub mod Versions

@@ -4,8 +4,18 @@
 //! touching, and says of each call which versions the intervals then cover.
 #![tactic(auto)]
 
+mod difference;
+mod errors;
+mod form;
+mod insertion;
 mod interval;
+mod places;
+#[cfg(test)]
+mod tests;
+mod union;
 mod vector;
 
+pub use errors::{OfError, VectorError};
+pub use form::one_form;
 pub use interval::Interval;
 pub use vector::Vector;

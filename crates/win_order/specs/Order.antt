@@ -1,5 +1,5 @@
 -- Which of two updates of a file wins.
-use Rattle.std.specs.Prelude.{◌≡◌, Bool, true, ◌&&◌, ◌||◌, ◌==◌, nat_lt}
+use Rattle.std.specs.Prelude.{◌≡◌, Bool, true, ◌&&◌, ◌||◌, ◌==◌, nat_lt, bit_and}
 use Rattle.frs_base.specs.Versions.{gvsn_lt}
 use Rattle.win_order.specs.declared.key.Key.{Key}
 use Rattle.win_order.specs.declared.update.Update.{Update}
@@ -15,6 +15,10 @@ key_lt a b =
     && (nat_lt a.clock b.clock || (a.clock == b.clock
     && (nat_lt a.created b.created || (a.created == b.created
     && gvsn_lt a.gvsn b.gvsn)))))
+
+-- it is of a directory: attribute bit 0x10 is set
+abbrev pub is_directory : Update → Bool
+is_directory u = bit_and u.attributes 0x10 == 0x10
 
 -- they share the UID, and u has the greater key
 pub record Beats (u v : Update) : Type 0 where

@@ -1,4 +1,6 @@
 // By what updates of one file are ordered.
+ghost use Rattle.std.specs.Prelude.{◌≡◌};
+
 use frs_base::Gvsn;
 
 /// By what updates of one file or directory are ordered, the most telling field first.
@@ -12,4 +14,15 @@ pub struct Key {
     pub created: u64,
     /// The version that made the update, which decides where all else is equal.
     pub gvsn: Gvsn,
+}
+
+impl Key {
+    ghost use Rattle.win_order.specs.Order.{key_lt};
+
+    /// This key is the lower.
+    pub(crate) fn is_below(&self, other: &Key) -> bool
+        ensures { result ≡ key_lt self.now other.now }
+    {
+        self < other
+    }
 }

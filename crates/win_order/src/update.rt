@@ -1,12 +1,15 @@
 // What a version says of a file or directory.
-ghost use Rattle.std.specs.Prelude.{◌≡◌};
-ghost use Rattle.win_order.specs.Order.{key_of};
+ghost use Rattle.std.specs.Prelude.{◌≡◌, ◌↔◌, IfOk, IsTrue};
 
 use crate::Key;
 use frs_base::{Guid, Gvsn, Name, Sum, Uid};
+use std::alloc::{AllocError, Global};
+
+/// The attribute of a directory.
+const DIRECTORY: u32 = 0x10;
 
 /// What one version says of one file or directory: the FRS_UPDATE of [MS-FRS2].
-#[derive(Debug, Drop)]
+#[derive(Debug, Drop, PartialEq, Eq)]
 pub struct Update {
     /// False for a tombstone: the file was removed.
     pub present: bool,
@@ -40,6 +43,8 @@ pub struct Update {
 }
 
 impl Update {
+    ghost use Rattle.win_order.specs.Order.{Beats, is_directory, key_of};
+
     /// By what it is ordered among the updates of its file.
     pub fn key(&self) -> Key
         ensures { result ≡ key_of self.now }
@@ -50,5 +55,41 @@ impl Update {
             created: self.created,
             gvsn: self.gvsn,
         }
+    }
+    /// It is of the same file or directory, and has the greater key.
+    pub fn beats(&self, other: &Update) -> bool
+        ensures { IsTrue result ↔ Beats self.now other.now }
+    {
+        self.uid == other.uid && other.key().is_below(&self.key())
+    }
+
+    /// Whether it is of a directory.
+    pub fn is_directory(&self) -> bool
+        ensures { result ≡ is_directory self.now }
+    {
+        self.attributes & DIRECTORY == DIRECTORY
+    }
+
+    /// The same update in memory of its own.
+    pub fn copy(&self, alloc: Global) -> Result<Update, AllocError>
+        ensures { IfOk result (λ update. update ≡ self.now) }
+    {
+        let name = self.name.copy(alloc)?;
+        Ok(Update {
+            present: self.present,
+            name_conflict: self.name_conflict,
+            attributes: self.attributes,
+            fence: self.fence,
+            clock: self.clock,
+            created: self.created,
+            set: self.set,
+            hash: self.hash,
+            similarity: self.similarity,
+            uid: self.uid,
+            gvsn: self.gvsn,
+            parent: self.parent,
+            name,
+            flags: self.flags,
+        })
     }
 }
