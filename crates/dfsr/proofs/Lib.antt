@@ -1,8 +1,14 @@
 pub mod Reading
+pub mod Numbers
 pub mod Rows
 pub mod Pairs
 pub mod Refusals
 pub mod Runs
+pub mod Keys
+pub mod Winning
+pub mod Listing
+pub mod Places
+pub mod Texts
 pub mod Members
 pub mod Causes
 pub mod Writing

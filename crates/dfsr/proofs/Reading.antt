@@ -9,17 +9,30 @@ use Rattle.std.proofs.lemmas.Slice.Eq.{bytes_eq-Decides}
 use Rattle.frs_base.specs.declared.kind.MemberKind.{MemberKind}
 use Rattle.frs_base.specs.declared.kind.MemberKind.TheVariants.{Primary, Plain}
 use Rattle.dfsr.specs.declared.line.Line.{Line}
-use Rattle.dfsr.specs.declared.line.Line.TheVariants.{Member, Show}
+use Rattle.dfsr.specs.declared.line.Line.TheVariants.{Change, Member, Show}
 use Rattle.dfsr.specs.declared.parse.ParseError.{ParseError}
 use Rattle.dfsr.specs.declared.parse.ParseError.TheVariants.{Bad, Memory}
-use Rattle.dfsr.specs.Grammar.{IsLine, is_member_name, is_small_letter, kind_word, spelling, words}
-use Rattle.dfsr.specs.Reading.{Reads, kind_in, line_of, line_of_three, line_of_two, member_with}
+use Rattle.dfsr.specs.Grammar.{IsLine, is_member_name, is_path, is_path_byte, is_small_letter, kind_word, spelling, words}
+use Rattle.dfsr.specs.Reading.{Reads, change_at, kind_in, line_of, line_of_four, line_of_three, line_of_two, member_with, number_in}
+use Rattle.dfsr.proofs.Numbers.{number_again, number_spelled, numerals}
+use Rattle.std.specs.Prelude.{decimal, ◌<◌, ◌^◌}
+use Rattle.std.proofs.lemmas.Fmt.{digits_decimal}
+use Rattle.std.proofs.lemmas.Str.Parse.{digit_at}
 
 -- ---- a line's words give the line
+
+change_again : (valid fits : Bool) (name path : List ℕ) (found : Option ℕ) (moment : ℕ) → valid ≡ true → fits ≡ true → found ≡ Some moment
+    → cond valid (cond fits (change_at name path found) None) None ≡ Some (Change name path moment)
+change_again true true name path (Some n) moment p q e = cc
+change_again true true name path None moment p q e = cc
+change_again true false name path found moment p q e = cc
+change_again false fits name path found moment p q e = cc
 
 pub again : (line : Line) → IsLine line → line_of (words line) ≡ Some line
 again (Member name Primary) valid = rw valid refl
 again (Member name Plain) valid = rw valid refl
+again (Change name path moment) valid =
+    change_again (is_member_name name) (is_path path) name path (number_in (decimal moment)) moment valid.0 valid.1 (number_again moment valid.2)
 again (Show name) valid = rw valid refl
 
 -- ---- words that give a line are its words
@@ -65,12 +78,31 @@ three_takes word name third line e =
     let all : word ∷ name ∷ third ∷ [] ≡ words (Member name kind) = cc in
     subst (λ l. IsLine l × (word ∷ name ∷ third ∷ [] ≡ words l)) (sym is) (valid, all)
 
+-- what the tests of four words say where they give a line
+four_tests : (valid is_change fits : Bool) (name path : List ℕ) (found : Option ℕ) (line : Line)
+    → cond valid (cond is_change (cond fits (change_at name path found) None) None) None ≡ Some line
+    → (moment : ℕ) × (valid ≡ true) × (is_change ≡ true) × (fits ≡ true) × (found ≡ Some moment) × (line ≡ Change name path moment)
+four_tests true true true name path (Some n) line e = (n, refl, refl, refl, refl, cc)
+four_tests true true true name path None line e = cc
+four_tests true true false name path found line e = cc
+four_tests true false fits name path found line e = cc
+four_tests false is_change fits name path found line e = cc
+
+four_takes : (word name third fourth : List ℕ) (line : Line) → line_of_four word name third fourth ≡ Some line → IsLine line × (word ∷ name ∷ third ∷ fourth ∷ [] ≡ words line)
+four_takes word name third fourth line e =
+    let (moment, valid, change, fits, found, is) = four_tests (is_member_name name) (bytes_eq word (codes "change")) (is_path third) name third (number_in fourth) line e in
+    let (spelled, small) = number_spelled fourth moment found in
+    let first = same word (codes "change") change in
+    let all : word ∷ name ∷ third ∷ fourth ∷ [] ≡ words (Change name third moment) = cc in
+    subst (λ l. IsLine l × (word ∷ name ∷ third ∷ fourth ∷ [] ≡ words l)) (sym is) ((valid, fits, small), all)
+
 pub takes : (ws : List (List ℕ)) (line : Line) → line_of ws ≡ Some line → IsLine line × (ws ≡ words line)
 takes [] line e = cc
 takes (a ∷ []) line e = cc
 takes (a ∷ b ∷ []) line e = two_takes a b line e
 takes (a ∷ b ∷ c ∷ []) line e = three_takes a b c line e
-takes (a ∷ b ∷ c ∷ d ∷ more) line e = cc
+takes (a ∷ b ∷ c ∷ d ∷ []) line e = four_takes a b c d line e
+takes (a ∷ b ∷ c ∷ d ∷ x ∷ more) line e = cc
 
 -- ---- words without a space, parted by one
 
@@ -93,9 +125,19 @@ literal word each = passes (λ b. not (eqb b 32)) (λ b e. grind (arith, nat_tes
 letters : (word : List ℕ) → is_member_name word ≡ true → HasNoSpace word
 letters word valid = passes is_small_letter (λ b e. grind (arith, nat_tests)) word (grind (arith, nat_tests))
 
+path_bytes : (word : List ℕ) → is_path word ≡ true → HasNoSpace word
+path_bytes word valid = passes is_path_byte (λ b e. grind (arith, nat_tests)) word (grind (arith, nat_tests))
+
+digits : (n : ℕ) → n < 2 ^ 61 → HasNoSpace (decimal n)
+digits n fits =
+    All-from_get_or (λ b. eqb b 32 ≡ false) (decimal n) 0
+    (λ i within. let digit = digit_at (decimal n) i (digits_decimal numerals n (omega arith)) within in grind (arith, nat_tests))
+
 pub parted : (line : Line) → IsLine line → slice_split (λ b. eqb b 32) (spelling line) ≡ words line
 parted (Member name Primary) valid = split_join (codes "member") _ (literal (codes "member") refl) (letters name valid, (literal (codes "primary") refl, tt))
 parted (Member name Plain) valid = split_join (codes "member") _ (literal (codes "member") refl) (letters name valid, (literal (codes "plain") refl, tt))
+parted (Change name path moment) valid =
+    split_join (codes "change") _ (literal (codes "change") refl) (letters name valid.0, (path_bytes path valid.1, (digits moment valid.2, tt)))
 parted (Show name) valid = split_join (codes "show") _ (literal (codes "show") refl) (letters name valid, tt)
 
 -- ---- rows

@@ -3,13 +3,14 @@ use Rattle.std.specs.Prelude.{◌⊎◌, ◌<◌, ◌≤◌, ℕ, Bool, true, fa
 use Rattle.std.specs.declared.option.Option.{Option}
 use Rattle.frs_io.specs.Told.{Takes, TakesSome}
 use Rattle.dfsr.specs.declared.line.Line.{Line}
-use Rattle.dfsr.specs.declared.line.Line.TheVariants.{Member, Show}
+use Rattle.dfsr.specs.declared.line.Line.TheVariants.{Change, Member, Show}
 use Rattle.dfsr.specs.Grammar.{HasBadRow, IsScript}
 use Rattle.dfsr.specs.Text.{Prints}
 
 -- a `member` line
 abbrev pub makes_member : Line → Bool
 makes_member (Member name kind) = true
+makes_member (Change name path moment) = false
 makes_member (Show name) = false
 
 -- a script of these lines, within 1,048,576 bytes and 8 `member` lines

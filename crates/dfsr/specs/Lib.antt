@@ -2,9 +2,13 @@ pub mod Grammar
 pub mod Records
 pub mod World
 pub mod Printed
+pub mod Change
+pub mod Changes
+pub mod Putting
 pub mod Text
 pub mod Answers
 pub mod Codes
 pub mod Reading
+pub mod Names
 pub mod Standing
 pub mod Laws

@@ -45,9 +45,16 @@ parent_word names uid = if uid.db == content_set && uid.version == 1 then codes 
 abbrev pub name_word : List ℕ → List ℕ
 name_word units = encode_utf8_all (utf16_lossy_chars units)
 
+-- what a record is of: UID GVSN KIND STATE
+abbrev pub subject_words : List (List ℕ) → Update → List (List ℕ)
+subject_words names u =
+    version_word names u.uid.db u.uid.version ∷ version_word names u.gvsn.db u.gvsn.version ∷ kind_word u ∷ state_word u ∷ []
+
+-- where it is, and what it is ordered by: PARENT NAME FENCE CLOCK CREATE
+abbrev pub place_words : List (List ℕ) → Update → List (List ℕ)
+place_words names u =
+    parent_word names u.parent ∷ name_word u.name ∷ decimal u.fence ∷ decimal u.clock ∷ decimal u.created ∷ []
+
 -- UID GVSN KIND STATE PARENT NAME FENCE CLOCK CREATE
 abbrev pub record_words : List (List ℕ) → Update → List (List ℕ)
-record_words names u =
-    version_word names u.uid.db u.uid.version ∷ version_word names u.gvsn.db u.gvsn.version
-    ∷ kind_word u ∷ state_word u ∷ parent_word names u.parent ∷ name_word u.name
-    ∷ decimal u.fence ∷ decimal u.clock ∷ decimal u.created ∷ []
+record_words names u = subject_words names u ++ place_words names u

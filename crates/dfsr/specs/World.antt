@@ -3,11 +3,7 @@ use Rattle.std.specs.Prelude.{◌≡◌, ℕ, Bool, false, List, [], ◌∷◌, 
 use Rattle.frs_base.specs.declared.version.Gvsn.{Gvsn}
 use Rattle.frs_base.specs.declared.kind.MemberKind.{MemberKind}
 use Rattle.win_order.specs.declared.update.Update.{Update}
-
--- a file that a member made: its name, and the version at which it was born
-pub record OwnFile : Type 0 where
-  pub name : List ℕ
-  pub born : ℕ
+use Rattle.dfsr.specs.declared.member.OwnFile.{OwnFile}
 
 -- one member
 pub record Member : Type 0 where

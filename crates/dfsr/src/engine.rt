@@ -1,12 +1,17 @@
 // The members of a run, and what the lines of a script do to them.
-ghost use Rattle.std.specs.Prelude.{◌≡◌, [], ◌∷◌, IfOk, IsAscii, bytes_eq, codes, position, string_bytes};
-ghost use Rattle.dfsr.specs.Printed.{printed};
-ghost use Rattle.dfsr.specs.Text.{Exists, Unknown, refusal_words};
+ghost use Rattle.std.specs.Prelude.{◌≡◌, ◌<◌, ◌∷◌, ◌++◌, [], IfOk, IsAscii, bytes_eq, codes, flat_map, length, position, string_bytes};
+ghost use Rattle.dfsr.specs.Changes.{IsFresh};
+ghost use Rattle.dfsr.specs.Printed.{printed, record_words, vector_words};
+ghost use Rattle.dfsr.specs.Names.{names_held};
+ghost use Rattle.dfsr.specs.Text.{Exists, Unknown, VectorFull, change_words, refusal_words};
+ghost use Rattle.version_vector.specs.Versions.{IsCanonical};
 
 use crate::line::Line;
 use crate::member::Member;
-use frs_base::{Bytes, MemberKind};
+use crate::text::{record_text, vector_text};
+use frs_base::{Bytes, MemberKind, Name, database_of};
 use std::alloc::{AllocError, Global};
+use version_vector::{Vector, VectorError};
 
 /// The members of a run.
 #[derive(Debug, Drop)]
@@ -35,17 +40,52 @@ fn refused_exists(alloc: Global, name: &str) -> Result<String, AllocError>
     format!(in alloc; "refused 2 exists {name}\n")
 }
 
+fn refused_vector_full(alloc: Global, count: u64) -> Result<String, AllocError>
+    ensures { IfOk result (λ text. string_bytes text ≡ printed (refusal_words (VectorFull count))) }
+{
+    format!(in alloc; "refused 20 vectorfull {count}\n")
+}
+
 fn ok_text(alloc: Global) -> Result<String, AllocError>
     ensures { IfOk result (λ text. string_bytes text ≡ printed (codes "ok" ∷ [])) }
 {
     String::from_str(alloc, "ok\n")
 }
 
-/// What `show` prints of a member that covers nothing.
-fn empty_text(alloc: Global) -> Result<String, AllocError>
-    ensures { IfOk result (λ text. string_bytes text ≡ printed (codes "vector" ∷ codes "empty" ∷ [])) }
+fn change_text(alloc: Global, name: &str, version: u64) -> Result<String, AllocError>
+    ensures { IfOk result (λ text. string_bytes text ≡ printed (change_words name.now version)) }
 {
-    String::from_str(alloc, "vector empty\n")
+    format!(in alloc; "update {name}:{version}\n")
+}
+
+/// What `show` prints of a member: its vector, and its records.
+fn show_text(alloc: Global, members: &[Member], member: &Member) -> Result<String, AllocError>
+    ensures canonical { IsCanonical member.now.vector }
+    ensures text { IfOk result (λ text. string_bytes text ≡
+        printed (codes "vector" ∷ vector_words (names_held members.now) member.now.vector)
+        ++ flat_map (λ u. printed (record_words (names_held members.now) u)) member.now.records.items) }
+{
+    let mut text = vector_text(alloc, members, member.vector.intervals())?;
+    for record in &member.records {
+        let line = record_text(alloc, members, record)?;
+        text.push_str(line.as_str())?;
+    }
+    Ok(text)
+}
+
+/// A member that has done nothing.
+fn fresh_member(alloc: Global, name: &str, kind: MemberKind) -> Result<Member, AllocError>
+    ensures { IfOk result (IsFresh name.now kind) }
+{
+    Ok(Member {
+        name: String::from_str(alloc, name)?,
+        kind,
+        finished: false,
+        files: Vec::new(alloc),
+        next: 9,
+        records: Vec::new(alloc),
+        vector: Vector::empty(),
+    })
 }
 
 /// The place of the first member with this name.
@@ -56,9 +96,9 @@ fn place_of(members: &[Member], name: &[u8]) -> Option<usize>
 }
 
 impl Engine {
-    ghost use Rattle.std.specs.Prelude.{OnErr};
+    ghost use Rattle.std.specs.Prelude.{◌+◌, ℕ, OnOk};
     ghost use Rattle.dfsr.specs.Grammar.{IsLine};
-    ghost use Rattle.dfsr.specs.Standing.{Stands};
+    ghost use Rattle.dfsr.specs.Standing.{HasRoom, IsWithin, Stands};
     ghost use Rattle.dfsr.specs.Text.{Does};
     ghost use Rattle.dfsr.specs.World.{World};
     ghost use Rattle.dfsr.specs.declared.line.Line.{Line};
@@ -75,15 +115,15 @@ impl Engine {
     fn add(&mut self, alloc: Global, name: &Bytes, kind: MemberKind) -> Result<String, AllocError>
         requires { IsLine (Line.Member name.now kind) }
         ensures ok { (w : World) → Stands self.old w → IfOk result (λ text. (new : World) × Does w (Line.Member name.now kind) (string_bytes text) new × Stands self.new new) }
-        ensures err { OnErr result (self.new.members.items ≡ self.old.members.items) }
+        ensures within { (n : ℕ) → IsWithin n self.old → OnOk result (IsWithin (n + 1) self.new) }
     {
         let text = text_of(name.as_slice());
         if place_of(&self.members, name.as_slice()).is_some() {
             return refused_exists(alloc, text);
         }
         let answer = ok_text(alloc)?;
-        let name = String::from_str(alloc, text)?;
-        self.members.push(Member { name, kind })?;
+        let member = fresh_member(alloc, text, kind)?;
+        self.members.push(member)?;
         Ok(answer)
     }
 
@@ -92,19 +132,46 @@ impl Engine {
         ensures { (w : World) → Stands self.now w → IfOk result (λ text. Does w (Line.Show name.now) (string_bytes text) w) }
     {
         match place_of(&self.members, name.as_slice()) {
-            Some(_) => empty_text(alloc),
+            Some(at) => show_text(alloc, &self.members, &self.members[at]),
             None => refused_unknown(alloc, text_of(name.as_slice())),
         }
     }
 
-    /// Does a line, and gives what it prints. Where memory lacks the members stay as they were.
+    fn change(
+        &mut self,
+        alloc: Global,
+        name: &Bytes,
+        path: &Name,
+        moment: u64,
+    ) -> Result<String, AllocError>
+        requires line { IsLine (Line.Change name.now path.now moment) }
+        requires room { HasRoom self.old }
+        ensures ok { (w : World) → Stands self.old w → IfOk result (λ text. (new : World) × Does w (Line.Change name.now path.now moment) (string_bytes text) new × Stands self.new new) }
+        ensures within { (n : ℕ) → IsWithin n self.old → OnOk result (IsWithin (n + 1) self.new) }
+    {
+        let text = text_of(name.as_slice());
+        let Some(at) = place_of(&self.members, name.as_slice()) else {
+            return refused_unknown(alloc, text);
+        };
+        let db = database_of(at as u64 + 1);
+        let answer = change_text(alloc, text, self.members[at].next)?;
+        match self.members[at].change(alloc, db, path, moment) {
+            Ok(()) => Ok(answer),
+            Err(VectorError::VectorFull { count }) => refused_vector_full(alloc, count),
+            Err(VectorError::Memory) => Err(AllocError),
+        }
+    }
+
+    /// Does a line, and gives what it prints.
     pub fn run(&mut self, alloc: Global, line: &Line) -> Result<String, AllocError>
-        requires { IsLine line.now }
+        requires line { IsLine line.now }
+        requires room { HasRoom self.old }
         ensures ok { (w : World) → Stands self.old w → IfOk result (λ text. (new : World) × Does w line.now (string_bytes text) new × Stands self.new new) }
-        ensures err { OnErr result (self.new.members.items ≡ self.old.members.items) }
+        ensures within { (n : ℕ) → IsWithin n self.old → OnOk result (IsWithin (n + 1) self.new) }
     {
         match line {
             Line::Member { name, kind } => self.add(alloc, name, *kind),
+            Line::Change { name, path, moment } => self.change(alloc, name, path, *moment),
             Line::Show { name } => self.show(alloc, name),
         }
     }

@@ -1,5 +1,5 @@
 // The lines of a script.
-use frs_base::{Bytes, MemberKind};
+use frs_base::{Bytes, MemberKind, Name};
 
 /// A line of a script that says something.
 #[derive(Debug, Drop)]
@@ -10,6 +10,16 @@ pub enum Line {
         name: Bytes,
         /// Whether its first changes win over a plain member's.
         kind: MemberKind,
+    },
+    /// `change M P T`: overwrites the member's own file at a path with nothing, or makes it, and
+    /// records it.
+    Change {
+        /// The member's name.
+        name: Bytes,
+        /// The file: 1 to 255 characters from 0x21 to 0x7E without `/` and `\\`.
+        path: Name,
+        /// The moment of the change, below 2^61.
+        moment: u64,
     },
     /// `show M`: prints what a member covers, and its records.
     Show {

@@ -3,13 +3,16 @@
 //! Read [`script::script_main`] first: from the bytes of a script to the bytes that it writes.
 #![tactic(auto)]
 
+pub mod change;
 pub mod engine;
 pub mod laws;
 pub mod line;
 pub mod member;
 pub mod parse;
+pub mod records;
 pub mod script;
 pub mod status;
+pub mod text;
 
 use crate::script::script_main;
 use crate::status::Status;

@@ -1,13 +1,13 @@
 // From bytes to the lines of a script.
-ghost use Rattle.std.specs.Prelude.{◌==◌, ◌≡◌, ◌≢◌, IfErr, IfOk, IsErrOf, map};
+ghost use Rattle.std.specs.Prelude.{◌==◌, ◌≡◌, ◌≢◌, true, IfErr, IfOk, IsErrOf, map};
 ghost use Rattle.std.specs.List.{list_all, slice_split};
-ghost use Rattle.dfsr.specs.Grammar.{HasBadRow, IsLine, IsScript, is_member_name, is_small_letter, rows, says_something, spelling};
-ghost use Rattle.dfsr.specs.Reading.{Reads, kind_in, line_of, line_of_three, line_of_two};
+ghost use Rattle.dfsr.specs.Grammar.{HasBadRow, IsLine, IsScript, is_member_name, is_path, is_path_byte, is_small_letter, rows, says_something, spelling};
+ghost use Rattle.dfsr.specs.Reading.{Reads, kind_in, line_of, line_of_four, line_of_three, line_of_two, number_in};
 ghost use Rattle.dfsr.specs.declared.line.Line.{Line};
 ghost use Rattle.dfsr.specs.declared.parse.ParseError.TheVariants.{Memory};
 
 use crate::line::Line;
-use frs_base::{Bytes, MemberKind};
+use frs_base::{Bytes, MemberKind, Name, NameError};
 use std::alloc::{AllocError, AllocFailed, Global};
 use std::error::Error;
 use std::fmt;
@@ -96,6 +96,54 @@ fn kind_in(word: &str) -> Option<MemberKind>
     }
 }
 
+fn has_path_bytes(word: &str) -> bool
+    ensures { result ≡ list_all is_path_byte word.now }
+{
+    word.bytes()
+        .all(|c| c >= 0x21 && c <= 0x7e && c != b'/' && c != b'\\')
+}
+
+fn is_path(word: &str) -> bool
+    ensures { result ≡ is_path word.now }
+{
+    0 < word.len() && word.len() <= 255 && has_path_bytes(word)
+}
+
+/// The characters of a word as UTF-16 units, where they are ASCII.
+fn units_of(alloc: Global, word: &str) -> Result<Vec<u16>, AllocError>
+    ensures { IfOk result (λ units. units.items ≡ word.now) }
+{
+    word.bytes().map(|c| u16::from(c)).collect(alloc)
+}
+
+/// The name that a path is.
+fn name_in(alloc: Global, path: &str) -> Result<Name, ParseError>
+    requires { is_path path.now ≡ true }
+    ensures ok { IfOk result (λ name. name ≡ path.now) }
+    ensures memory { IfErr result (λ e. e ≡ ParseError.Memory) }
+{
+    let units = units_of(alloc, path)?;
+    match Name::from_units(alloc, &units) {
+        Ok(name) => Ok(name),
+        Err(NameError::NameBad { .. }) => unreachable!(),
+        Err(NameError::Memory) => Err(ParseError::Memory),
+    }
+}
+
+/// The number below 2^61 that a word spells, in decimal without sign and leading zeros.
+fn number_in(alloc: Global, word: &str) -> Result<Option<u64>, AllocError>
+    ensures { IfOk result (λ found. found ≡ number_in word.now) }
+{
+    let Ok(number) = word.parse::<u64>() else {
+        return Ok(None);
+    };
+    if number < 1 << 61 && number.to_string(alloc)?.as_str() == word {
+        Ok(Some(number))
+    } else {
+        Ok(None)
+    }
+}
+
 /// The bytes of a word, in memory of their own.
 fn owned(alloc: Global, word: &str) -> Result<Bytes, ParseError>
     ensures ok { IfOk result (λ bytes. bytes ≡ word.now) }
@@ -137,6 +185,34 @@ fn line_of_three(alloc: Global, word: &str, name: &str, third: &str) -> Result<L
     }
 }
 
+fn line_of_four(
+    alloc: Global,
+    word: &str,
+    name: &str,
+    third: &str,
+    fourth: &str,
+) -> Result<Line, ParseError>
+    ensures { Reads result (line_of_four word.now name.now third.now fourth.now) }
+{
+    if !is_member_name(name) {
+        return Err(ParseError::Bad);
+    }
+    if word != "change" {
+        return Err(ParseError::Bad);
+    }
+    if !is_path(third) {
+        return Err(ParseError::Bad);
+    }
+    match number_in(alloc, fourth)? {
+        Some(moment) => Ok(Line::Change {
+            name: owned(alloc, name)?,
+            path: name_in(alloc, third)?,
+            moment,
+        }),
+        None => Err(ParseError::Bad),
+    }
+}
+
 /// The line of these words.
 fn line_of_words(alloc: Global, words: &[&str]) -> Result<Line, ParseError>
     ensures { Reads result (line_of (map (λ word. word.now) words.now)) }
@@ -144,6 +220,7 @@ fn line_of_words(alloc: Global, words: &[&str]) -> Result<Line, ParseError>
     match words {
         [word, name] => line_of_two(alloc, word, name),
         [word, name, third] => line_of_three(alloc, word, name, third),
+        [word, name, third, fourth] => line_of_four(alloc, word, name, third, fourth),
         _ => Err(ParseError::Bad),
     }
 }
