@@ -9,6 +9,9 @@ pub mod Winning
 pub mod Listing
 pub mod Places
 pub mod Texts
+pub mod Made
+pub mod Recording
 pub mod Members
+pub mod Bounds
 pub mod Causes
 pub mod Writing

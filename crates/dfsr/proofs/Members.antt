@@ -1,29 +1,53 @@
 -- The members of an engine and those of the world that it stands for.
-use Rattle.std.proofs.Common.{◌≡◌, ℕ, suc, zero, Bool, true, false, cond, List, [], ◌∷◌, ◌++◌, refl, sym, ap, ◌∙◌, subst, MatchOption, Option, Some, None, bytes_eq, length, arith, ◌<◌}
-use Rattle.std.specs.Prelude.{codes, is_some, position, slice_get, string_bytes}
+use Rattle.std.proofs.Common.{◌≡◌, ◌≢◌, ◌<◌, ◌≤◌, ◌+◌, ℕ, zero, suc, Bool, true, false, List, [], ◌∷◌, ◌++◌, length, leb, map, set, refl, sym, ap, ◌∙◌, subst, Option, Some, None, MatchBool, bytes_eq, arith}
+use Rattle.std.specs.Prelude.{codes, decimal, find, flat_map, is_some, nat_le, position, slice_get, string_bytes}
 use Rattle.std.specs.List.{AllZip}
+use Rattle.std.proofs.lemmas.Bool.Decides.{nat_tests}
 use Rattle.std.proofs.lemmas.List.Quantifiers.{position-Some}
+use Rattle.frs_base.specs.Identifiers.{database_of}
+use Rattle.frs_base.specs.Versions.{same_uid}
 use Rattle.frs_base.specs.declared.version.Gvsn.{Gvsn}
 use Rattle.frs_base.specs.declared.kind.MemberKind.{MemberKind}
+use Rattle.version_vector.specs.Limits.{HasIntervals, IsTooLong}
+use Rattle.version_vector.specs.Places.{one_version}
+use Rattle.version_vector.specs.Unions.{inserted}
+use Rattle.version_vector.specs.Versions.{IsCanonical, covers}
+use Rattle.version_vector.specs.declared.errors.VectorError.TheVariants as errors
+use Rattle.version_vector.specs.declared.interval.Interval.{Interval}
+use Rattle.version_vector.proofs.Insertions.{adds_version, inserted_form}
 use Rattle.win_order.specs.declared.update.Update.{Update}
 use Rattle.dfsr.specs.declared.member.Member.{Member as Held}
 use Rattle.dfsr.specs.declared.engine.Engine.{Engine}
 use Rattle.dfsr.specs.declared.line.Line.{Line}
 use Rattle.dfsr.specs.declared.line.Line.TheVariants as lines
-use Rattle.dfsr.specs.Records.{AreWinners, Covered}
-use Rattle.dfsr.specs.World.{Member, World, fresh_member, fresh_world, place_of, with_member}
-use Rattle.dfsr.specs.Printed.{printed}
-use Rattle.dfsr.specs.Text.{Acts, Does, Exists, Run, Shows, Unknown, refusal_words}
-use Rattle.dfsr.specs.Standing.{MemberStands, Stands}
-use Rattle.dfsr.proofs.Pairs.{zip_at, zip_position, zip_push}
+use Rattle.dfsr.specs.Change.{base_of, born_of, change_of, file_update, name_of, new_file, next_gvsn, uid_at}
+use Rattle.dfsr.specs.Changes.{Changes, IsFresh, IsUnchanged, made_by}
+use Rattle.dfsr.specs.Names.{names_held}
+use Rattle.dfsr.specs.Printed.{printed, record_words, vector_words}
+use Rattle.dfsr.specs.Putting.{put_record}
+use Rattle.dfsr.specs.Records.{Covered, In, IsHeld, IsWinner, Lists, plus}
+use Rattle.dfsr.specs.Standing.{IsSound, MemberStands, Stands}
+use Rattle.dfsr.specs.Text.{Acts, Does, Exists, IsRefused, IsVector, Unknown, VectorFull, Widens, after_change, change_words, refusal_words}
+use Rattle.dfsr.specs.World.{Member, World, fresh_member, names_of, place_of, with_member}
+use Rattle.dfsr.proofs.Listing.{found_held}
+use Rattle.dfsr.proofs.Made.{sound_with_member}
+use Rattle.dfsr.proofs.Pairs.{zip_at, zip_map, zip_position, zip_push, zip_replace, zip_set}
+use Rattle.dfsr.proofs.Recording.{change_sound, other_records, own_records}
 use Rattle.dfsr.proofs.Refusals.{acts_if, acts_unless, refused_if, refused_unless}
-use Rattle.dfsr.proofs.Runs.{run_then_run}
+
+-- ---- names
+
+-- the place of a name among the members held
+abbrev pub place_held : List Held → List ℕ → Option ℕ
+place_held held name = position (λ m. bytes_eq (string_bytes m.name) name) held
 
 -- both find one place for a name
-pub place_same : (held : List Held) (members : List Member) (name : List ℕ) → AllZip MemberStands held members
-    → position (λ m. bytes_eq (string_bytes m.name) name) held ≡ place_of members name
-place_same held members name zip =
-    zip_position MemberStands (λ m. bytes_eq (string_bytes m.name) name) (λ m. bytes_eq m.name name) (λ x y s. ap (λ n. bytes_eq n name) s.name) held members zip
+pub place_same : (all : List Update) (held : List Held) (members : List Member) (name : List ℕ) → AllZip (MemberStands all) held members → place_held held name ≡ place_of members name
+place_same all held members name zip =
+    zip_position (MemberStands all) (λ m. bytes_eq (string_bytes m.name) name) (λ m. bytes_eq m.name name) (λ x y s. ap (λ n. bytes_eq n name) s.name) held members zip
+
+pub names_same : (all : List Update) (held : List Held) (members : List Member) → AllZip (MemberStands all) held members → names_held held ≡ map (λ m. m.name) members
+names_same all held members zip = zip_map (MemberStands all) (λ m. string_bytes m.name) (λ m. m.name) (λ x y s. s.name) held members zip
 
 -- an item that a test finds
 pub found_at : {X : Type 0} (p : X → Bool) (xs : List X) (k : ℕ) → position p xs ≡ Some k → (x : X) × (slice_get xs k ≡ Some x)
@@ -35,121 +59,197 @@ found_at p (x ∷ xs) k e = get_within (x ∷ xs) k x (position-Some p (x ∷ xs
     get_within (x ∷ xs) zero d within = (x, refl)
     get_within (x ∷ xs) (suc k) d within = get_within xs k d (omega arith)
 
--- ---- what a member that covers nothing shows
-
-covers_nothing : (all : List Update) (known : Gvsn → Bool) → ((g : Gvsn) → known g ≡ false) → AreWinners (Covered all known) []
-covers_nothing all known none = record {
-  rising = tt;
-  wins = λ u h. absurd h;
-  whole = λ u w. absurd (let no : known u.gvsn ≡ false = none u.gvsn in let known_too : known u.gvsn ≡ true = w.among.1 in cc);
-}
-
-pub shows_nothing : (w : World) (m : Member) → ((g : Gvsn) → m.known g ≡ false) → Shows w m (printed (codes "vector" ∷ codes "empty" ∷ []))
-shows_nothing w m none = ([], [], tt, λ g. sym (none g), covers_nothing w.all m.known none, refl)
-
--- ---- lines
-
--- the members that are held, found by name
-abbrev pub place_held : List Held → List ℕ → Option ℕ
-place_held held name = position (λ m. bytes_eq (string_bytes m.name) name) held
-
-pub show_known : (engine : Engine) (w : World) (name : List ℕ) (k : ℕ) → Stands engine w → place_held engine.members.items name ≡ Some k
-    → Does w (lines.Show name) (printed (codes "vector" ∷ codes "empty" ∷ [])) w
-show_known engine w name k s held =
-    let place : place_of w.members name ≡ Some k = sym (place_same _ w.members name s.members) ∙ held in
-    let (x, at) = found_at (λ m. bytes_eq (string_bytes m.name) name) engine.members.items k held in
-    let (m, is, stands) = zip_at MemberStands engine.members.items w.members k x s.members at in
-    acts_if _ (Unknown name) _ (ap is_some place) (k, m, (place, is), shows_nothing w m stands.unknown, refl)
-
-pub show_unknown : (engine : Engine) (w : World) (name : List ℕ) → Stands engine w → place_held engine.members.items name ≡ None
-    → Does w (lines.Show name) (printed (refusal_words (Unknown name))) w
-show_unknown engine w name s held =
-    let place : place_of w.members name ≡ None = sym (place_same _ w.members name s.members) ∙ held in
-    refused_unless _ _ (Unknown name) _ (ap is_some place) (refl, refl)
+-- ---- `member`
 
 pub add_known : (engine : Engine) (w : World) (name : List ℕ) (kind : MemberKind) → Stands engine w → is_some (place_held engine.members.items name) ≡ true
     → Does w (lines.Member name kind) (printed (refusal_words (Exists name))) w
 add_known engine w name kind s held =
-    let place : is_some (place_of w.members name) ≡ true = ap is_some (sym (place_same _ w.members name s.members)) ∙ held in
+    let place : is_some (place_of w.members name) ≡ true = ap is_some (sym (place_same w.all _ w.members name s.members)) ∙ held in
     refused_if _ _ (Exists name) _ place (refl, refl)
 
 pub add_new : (engine : Engine) (w : World) (name : List ℕ) (kind : MemberKind) → Stands engine w → is_some (place_held engine.members.items name) ≡ false
     → Does w (lines.Member name kind) (printed (codes "ok" ∷ [])) (with_member w (fresh_member name kind))
 add_new engine w name kind s held =
-    let place : is_some (place_of w.members name) ≡ false = ap is_some (sym (place_same _ w.members name s.members)) ∙ held in
+    let place : is_some (place_of w.members name) ≡ false = ap is_some (sym (place_same w.all _ w.members name s.members)) ∙ held in
     acts_unless _ (Exists name) _ place (refl, refl)
 
-pub add_stands : (old new : Engine) (w : World) (held : Held) (name : List ℕ) (kind : MemberKind) → Stands old w → string_bytes held.name ≡ name → held.kind ≡ kind
-    → new.members.items ≡ old.members.items ++ held ∷ [] → Stands new (with_member w (fresh_member name kind))
-add_stands old new w held name kind s named kinded is = record {
-  members = subst (λ l. AllZip MemberStands l (w.members ++ fresh_member name kind ∷ [])) (sym is)
-      (zip_push MemberStands _ _ held (fresh_member name kind) s.members (record { name = named; kind = kinded; unknown = λ g. refl }));
-  unrecorded = s.unrecorded;
+covers_nothing : (all : List Update) → Lists (IsWinner (Covered all (λ _. false))) []
+covers_nothing all = record { rising = tt; each = λ u h. absurd h; whole = λ u w. absurd (let t = w.among.1 in cc) }
+
+fresh_stands : (all : List Update) (held : Held) (name : List ℕ) (kind : MemberKind) → IsFresh name kind held → MemberStands all held (fresh_member name kind)
+fresh_stands all held name kind f = record {
+  name = f.named;
+  kind = f.kinded;
+  finished = f.finished;
+  files = f.files;
+  next = f.next;
+  vector = record { canonical = subst IsCanonical (sym f.vector) tt; covering = λ g. ap (λ v. covers v g) f.vector };
+  records = subst (Lists (IsWinner (Covered all (λ _. false)))) (sym f.records) (covers_nothing all);
 }
 
--- ---- worlds that a run reaches
+pub add_stands : (old new : Engine) (w : World) (held : Held) (name : List ℕ) (kind : MemberKind) → Stands old w → IsFresh name kind held
+    → new.members.items ≡ old.members.items ++ held ∷ [] → Stands new (with_member w (fresh_member name kind))
+add_stands old new w held name kind s f is = record {
+  members = subst (λ l. AllZip (MemberStands w.all) l (w.members ++ fresh_member name kind ∷ [])) (sym is)
+      (zip_push (MemberStands w.all) _ _ held (fresh_member name kind) s.members (fresh_stands w.all held name kind f));
+  sound = sound_with_member w (fresh_member name kind) (λ g. refl) s.sound;
+}
 
--- no member covers anything yet
-pub record IsYoung (w : World) : Type 0 where
-  pub unknown : (k : ℕ) (m : Member) → slice_get w.members k ≡ Some m → (g : Gvsn) → m.known g ≡ false
+-- ---- `show`
 
-fresh_is_young : IsYoung fresh_world
-fresh_is_young = record { unknown = λ k m at g. cc }
+-- what is printed of what is held
+abbrev pub shown : List Held → Held → List ℕ
+shown members h =
+    printed (codes "vector" ∷ vector_words (names_held members) h.vector) ++ flat_map (λ u. printed (record_words (names_held members) u)) h.records.items
 
-young_more : (w : World) (name : List ℕ) (kind : MemberKind) → IsYoung w → IsYoung (with_member w (fresh_member name kind))
-young_more w name kind y = record { unknown = λ k m at g. pushed w.members k m at g y.unknown }
+pub show_known : (engine : Engine) (w : World) (name : List ℕ) (k : ℕ) (h : Held) → Stands engine w → place_held engine.members.items name ≡ Some k → slice_get engine.members.items k ≡ Some h
+    → Does w (lines.Show name) (shown engine.members.items h) w
+show_known engine w name k h s held at =
+    let place : place_of w.members name ≡ Some k = sym (place_same w.all _ w.members name s.members) ∙ held in
+    let (m, is, stands) = zip_at (MemberStands w.all) engine.members.items w.members k h s.members at in
+    let names = names_same w.all engine.members.items w.members s.members in
+    acts_if _ (Unknown name) _ (ap is_some place)
+    (k, m, (place, is), (h.vector, h.records.items, stands.vector, stands.records,
+        ap (λ n. printed (codes "vector" ∷ vector_words n h.vector) ++ flat_map (λ u. printed (record_words n u)) h.records.items) names), refl)
+
+pub show_unknown : (engine : Engine) (w : World) (name : List ℕ) → Stands engine w → place_held engine.members.items name ≡ None
+    → Does w (lines.Show name) (printed (refusal_words (Unknown name))) w
+show_unknown engine w name s held =
+    let place : place_of w.members name ≡ None = sym (place_same w.all _ w.members name s.members) ∙ held in
+    refused_unless _ _ (Unknown name) _ (ap is_some place) (refl, refl)
+
+-- ---- `change`
+
+pub change_unknown : (engine : Engine) (w : World) (name path : List ℕ) (moment : ℕ) → Stands engine w → place_held engine.members.items name ≡ None
+    → Does w (lines.Change name path moment) (printed (refusal_words (Unknown name))) w
+change_unknown engine w name path moment s held =
+    let place : place_of w.members name ≡ None = sym (place_same w.all _ w.members name s.members) ∙ held in
+    refused_unless _ _ (Unknown name) _ (ap is_some place) (refl, refl)
+
+-- the record that a change at a path finds
+abbrev pub held_at : ℕ → Member → List ℕ → List Update → Option Update
+held_at k m path records = find (λ r. same_uid r.uid (uid_at k m path)) records
+
+made_is : (all : List Update) (k : ℕ) (h : Held) (m : Member) (path : List ℕ) (moment : ℕ) → MemberStands all h m
+    → made_by h (database_of (k + 1)) path moment ≡ change_of k m path moment (held_at k m path h.records.items)
+made_is all k h m path moment s = λ i.
+    file_update (database_of (k + 1)) (s.next i) (born_of (s.files i) (s.next i) path) (name_of (s.files i) path) (base_of (s.kind i) (s.finished i)) moment
+    (find (λ r. same_uid r.uid (record { db = database_of (k + 1); version = born_of (s.files i) (s.next i) path })) h.records.items)
+
+-- the vector that a member has after its change
+vector_grows : (k : ℕ) (h : Held) (m : Member) (vector : List Interval) (all : List Update) → MemberStands all h m
+    → IsVector (plus (covers h.vector) (record { db = database_of (k + 1); version = h.next })) vector → IsVector (plus m.known (next_gvsn k m)) vector
+vector_grows k h m vector all s v = record {
+  canonical = v.canonical;
+  covering = λ g. v.covering g ∙ (λ i. plus (λ x. s.vector.covering x i) (record { db = database_of (k + 1); version = s.next i }) g);
+}
+
+own_stands : (w : World) (k : ℕ) (h h' : Held) (m : Member) (path : List ℕ) (moment : ℕ) → IsSound w → slice_get w.members k ≡ Some m → MemberStands w.all h m
+    → Changes h h' (database_of (k + 1)) path moment
+    → MemberStands (w.all ++ change_of k m path moment (held_at k m path h.records.items) ∷ []) h'
+      (record m { files = m.files ++ new_file m.files m.next path; next = m.next + 1; known = plus m.known (next_gvsn k m) })
+own_stands w k h h' m path moment sound at s c = record {
+  name = ap string_bytes c.name ∙ s.name;
+  kind = c.kind ∙ s.kind;
+  finished = c.finished ∙ s.finished;
+  files = c.files ∙ (λ i. s.files i ++ new_file (s.files i) (s.next i) path);
+  next = c.next ∙ ap (λ n. n + 1) s.next;
+  vector = vector_grows k h m h'.vector w.all s c.vector;
+  records =
+      let held = held_at k m path h.records.items in
+      let u = change_of k m path moment held in
+      let put : h'.records.items ≡ put_record u h.records.items = c.records ∙ ap (λ v. put_record v h.records.items) (made_is w.all k h m path moment s) in
+      subst (Lists (IsWinner (Covered (w.all ++ u ∷ []) (plus m.known (next_gvsn k m))))) (sym put)
+      (own_records w k m path moment held h.records.items sound at (found_held w.all m.known h.records.items (uid_at k m path) s.records) s.records);
+}
+
+other_stands : (w : World) (k : ℕ) (m : Member) (j : ℕ) (n : Member) (h : Held) (u : Update) → IsSound w → slice_get w.members k ≡ Some m → slice_get w.members j ≡ Some n → u.gvsn ≡ next_gvsn k m
+    → MemberStands w.all h n → MemberStands (w.all ++ u ∷ []) h n
+other_stands w k m j n h u sound at at' is s = record {
+  name = s.name;
+  kind = s.kind;
+  finished = s.finished;
+  files = s.files;
+  next = s.next;
+  vector = s.vector;
+  records = other_records w k m j n u h.records.items sound at at' is s.records;
+}
+
+pub change_stands : (old new : Engine) (w : World) (k : ℕ) (h h' : Held) (m : Member) (path : List ℕ) (moment : ℕ) → Stands old w → slice_get w.members k ≡ Some m → MemberStands w.all h m
+    → Changes h h' (database_of (k + 1)) path moment → new.members.items ≡ set old.members.items k h'
+    → Stands new (after_change w k m path (change_of k m path moment (held_at k m path h.records.items)))
+change_stands old new w k h h' m path moment s at stands c is =
+    let u = change_of k m path moment (held_at k m path h.records.items) in
+    record {
+      members = subst (λ l. AllZip (MemberStands (w.all ++ u ∷ [])) l (after_change w k m path u).members) (sym is)
+          (zip_set (MemberStands w.all) (MemberStands (w.all ++ u ∷ [])) old.members.items w.members k h' _ s.members
+          (λ j a n other at' r. other_stands w k m j n a u s.sound at at' refl r)
+          (own_stands w k h h' m path moment s.sound at stands c));
+      sound = change_sound w k m path moment (held_at k m path h.records.items) s.sound at;
+    }
+
+unchanged_stands : (all : List Update) (h h' : Held) (m : Member) → IsUnchanged h h' → MemberStands all h m → MemberStands all h' m
+unchanged_stands all h h' m c s = record {
+  name = ap string_bytes c.name ∙ s.name;
+  kind = c.kind ∙ s.kind;
+  finished = c.finished ∙ s.finished;
+  files = c.files ∙ s.files;
+  next = c.next ∙ s.next;
+  vector = subst (IsVector m.known) (sym c.vector) s.vector;
+  records = subst (Lists (IsWinner (Covered all m.known))) (sym c.records) s.records;
+}
+
+pub same_stands : (old new : Engine) (w : World) (k : ℕ) (h h' : Held) (m : Member) → Stands old w → slice_get w.members k ≡ Some m → MemberStands w.all h m → IsUnchanged h h'
+    → new.members.items ≡ set old.members.items k h' → Stands new w
+same_stands old new w k h h' m s at stands c is = record {
+  members = subst (λ l. AllZip (MemberStands w.all) l w.members) (sym is) (zip_replace (MemberStands w.all) old.members.items w.members k h' m s.members at (unchanged_stands w.all h h' m c stands));
+  sound = s.sound;
+}
+
+-- K becomes a set whose vector is short enough
+pub widens_to : (w : World) (set : Gvsn → Bool) (vector : List Interval) (A : Type 0) (text : List ℕ) (new : World) → IsVector set vector → length vector ≤ 65536 → A → Widens w set A text new
+widens_to w set vector A text new v within acts = (vector, v, by (nat_le (length vector) 65536) (grind (arith, nat_tests)))
   where
-    pushed : (members : List Member) (k : ℕ) (m : Member) → slice_get (members ++ fresh_member name kind ∷ []) k ≡ Some m → (g : Gvsn)
-        → ((k : ℕ) (m : Member) → slice_get members k ≡ Some m → (g : Gvsn) → m.known g ≡ false) → m.known g ≡ false
-    pushed [] zero m at g old = let same : fresh_member name kind ≡ m = cc in subst (λ n. n.known g ≡ false) same refl
-    pushed [] (suc k) m at g old = absurd (cc)
-    pushed (n ∷ members) zero m at g old = old zero m at g
-    pushed (n ∷ members) (suc k) m at g old = pushed members k m at g (λ j x e. old (suc j) x e)
+    by : (b : Bool) → b ≡ true → MatchBool b A (IsRefused w (VectorFull (length vector)) text new)
+    by true e = acts
+    by false e = absurd (cc)
 
-young_does : (w : World) (line : Line) (text : List ℕ) (new : World) → IsYoung w → Does w line text new → IsYoung new
-young_does w (lines.Member name kind) text new y does = by (is_some (place_of w.members name)) does
+-- K would become a set whose vector is too long
+pub too_wide : (w : World) (set : Gvsn → Bool) (vector : List Interval) (count : ℕ) (A : Type 0) → IsVector set vector → IsTooLong (errors.VectorFull count) set
+    → Widens w set A (printed (refusal_words (VectorFull count))) w
+too_wide w set vector count A v long =
+    let same : length vector ≡ count = long.1 vector v.canonical v.covering in
+    (vector, v, by (nat_le (length vector) 65536) (let over = long.0 in grind (arith, nat_tests)) (sym same))
   where
-    by : (b : Bool) → MatchOption (cond b (Some (Exists name)) None) (Acts w (lines.Member name kind) text new) (λ why. (text ≡ printed (refusal_words why)) × (new ≡ w)) → IsYoung new
-    by true (said, same) = subst IsYoung (sym same) y
-    by false (said, is) = subst IsYoung (sym is) (young_more w name kind y)
-young_does w (lines.Show name) text new y does = by (is_some (place_of w.members name)) does
-  where
-    by : (b : Bool) → MatchOption (cond b None (Some (Unknown name))) (Acts w (lines.Show name) text new) (λ why. (text ≡ printed (refusal_words why)) × (new ≡ w)) → IsYoung new
-    by true (k, m, named, shows, same) = subst IsYoung (sym same) y
-    by false (said, same) = subst IsYoung (sym same) y
+    by : (b : Bool) → b ≡ false → count ≡ length vector → MatchBool b A (IsRefused w (VectorFull (length vector)) (printed (refusal_words (VectorFull count))) w)
+    by false e is = (ap (λ n. printed (refusal_words (VectorFull n))) is, refl)
+    by true e is = absurd (cc)
 
-young_run : (w : World) (before : List Line) (text : List ℕ) (new : World) → IsYoung w → Run w before text new → IsYoung new
-young_run w [] text new y (said, is) = subst IsYoung (sym is) y
-young_run w (line ∷ before) text new y (first, mid, rest, does, run, said) = young_run mid before rest new (young_does w line first mid y does) run
+-- a set with a vector has one with one version more
+pub vector_more : (set : Gvsn → Bool) (vector : List Interval) (g : Gvsn) → IsVector set vector → IsVector (plus set g) (inserted (one_version g) vector)
+vector_more set vector g v = record {
+  canonical = inserted_form (one_version g) vector (omega arith) v.canonical;
+  covering = λ h. adds_version g vector v.canonical h ∙ (λ i. plus (λ x. v.covering x i) g h);
+}
 
-line_prints : (w : World) → IsYoung w → (line : Line) → (text : List ℕ) × (new : World) × Does w line text new
-line_prints w y (lines.Member name kind) = by (is_some (place_of w.members name)) refl
-  where
-    by : (b : Bool) → is_some (place_of w.members name) ≡ b → (text : List ℕ) × (new : World) × Does w (lines.Member name kind) text new
-    by true e = (_, w, refused_if _ _ (Exists name) _ e (refl, refl))
-    by false e = (_, with_member w (fresh_member name kind), acts_unless _ (Exists name) _ e (refl, refl))
-line_prints w y (lines.Show name) = by (place_of w.members name) refl
-  where
-    by : (found : Option ℕ) → place_of w.members name ≡ found → (text : List ℕ) × (new : World) × Does w (lines.Show name) text new
-    by None e = (_, w, refused_unless _ _ (Unknown name) _ (ap is_some e) (refl, refl))
-    by (Some k) e =
-        let (m, at) = found_at (λ m. bytes_eq m.name name) w.members k e in
-        (_, w, acts_if _ (Unknown name) _ (ap is_some e) (k, m, (e, at), shows_nothing w m (y.unknown k m at), refl))
+pub change_known : (engine : Engine) (w : World) (name path : List ℕ) (moment k : ℕ) (h h' : Held) (m : Member) → Stands engine w → place_held engine.members.items name ≡ Some k
+    → slice_get w.members k ≡ Some m → MemberStands w.all h m → Changes h h' (database_of (k + 1)) path moment
+    → Does w (lines.Change name path moment) (printed (change_words name h.next)) (after_change w k m path (change_of k m path moment (held_at k m path h.records.items)))
+change_known engine w name path moment k h h' m s held at stands c =
+    let place : place_of w.members name ≡ Some k = sym (place_same w.all _ w.members name s.members) ∙ held in
+    let found = held_at k m path h.records.items in
+    acts_if _ (Unknown name) _ (ap is_some place)
+    (k, m, found, (place, at), found_held w.all m.known h.records.items (uid_at k m path) stands.records,
+        widens_to w _ h'.vector _ _ _ (vector_grows k h m h'.vector w.all stands c.vector) c.within (ap (λ n. printed (change_words name n)) stands.next, refl))
 
--- each line prints something in every world that a run reaches
-pub every_line : (before : List Line) (said : List ℕ) (w : World) → Run fresh_world before said w → (line : Line) → (text : List ℕ) × (new : World) × Does w line text new
-every_line before said w run line = line_prints w (young_run fresh_world before said w fresh_is_young run) line
-
-lines_print : (w : World) → IsYoung w → (more : List Line) → (text : List ℕ) × (new : World) × Run w more text new
-lines_print w y [] = ([], w, (refl, refl))
-lines_print w y (line ∷ more) =
-    let (first, mid, does) = line_prints w y line in
-    let (rest, new, run) = lines_print mid (young_does w line first mid y does) more in
-    (first ++ rest, new, (first, mid, rest, does, run, refl))
-
--- what some first lines print is the beginning of what all print
-pub run_goes_on : (before more : List Line) (said : List ℕ) (w : World) → Run fresh_world before said w
-    → (rest : List ℕ) × (new : World) × Run fresh_world (before ++ more) (said ++ rest) new
-run_goes_on before more said w run =
-    let (rest, new, further) = lines_print w (young_run fresh_world before said w fresh_is_young run) more in
-    (rest, new, run_then_run fresh_world before more said w rest new run further)
+pub change_too_wide : (engine : Engine) (w : World) (name path : List ℕ) (moment k count : ℕ) (h : Held) (m : Member) → Stands engine w → place_held engine.members.items name ≡ Some k
+    → slice_get w.members k ≡ Some m → MemberStands w.all h m → IsTooLong (errors.VectorFull count) (plus (covers h.vector) (record { db = database_of (k + 1); version = h.next }))
+    → Does w (lines.Change name path moment) (printed (refusal_words (VectorFull count))) w
+change_too_wide engine w name path moment k count h m s held at stands long =
+    let place : place_of w.members name ≡ Some k = sym (place_same w.all _ w.members name s.members) ∙ held in
+    let found = held_at k m path h.records.items in
+    let more = vector_more m.known h.vector (next_gvsn k m) stands.vector in
+    let wide : IsTooLong (errors.VectorFull count) (plus m.known (next_gvsn k m)) =
+    (long.0, λ list form same. long.1 list form (λ g. same g ∙ (λ i. plus (λ x. sym (stands.vector.covering x) i) (record { db = database_of (k + 1); version = sym stands.next i }) g))) in
+    acts_if _ (Unknown name) _ (ap is_some place)
+    (k, m, found, (place, at), found_held w.all m.known h.records.items (uid_at k m path) stands.records, too_wide w _ _ count _ more wide)

@@ -1,5 +1,5 @@
 -- Two lists whose items stand for each other, in order.
-use Rattle.std.proofs.Common.{◌≡◌, ◌+◌, ℕ, zero, suc, Bool, cond, not, ltb, List, [], ◌∷◌, ◌++◌, length, map, refl, ap, subst, Some, None}
+use Rattle.std.proofs.Common.{◌≡◌, ◌≢◌, ◌<◌, ◌+◌, ℕ, zero, suc, Bool, cond, not, ltb, List, [], ◌∷◌, ◌++◌, length, get_or, set, map, refl, sym, ap, subst, Some, None, arith}
 use Rattle.std.specs.Prelude.{position, slice_get}
 use Rattle.std.specs.List.{AllZip, position_or_len}
 
@@ -42,3 +42,59 @@ pub zip_position : {X Y : Type 0} (R : X → Y → Type 0) (p : X → Bool) (q :
 zip_position R p q alike xs ys h =
     let (at, len) = zip_first R p q alike xs ys h in
     λ i. cond (ltb (at i) (len i)) (Some (at i)) None
+
+-- a pair that is like another at each place
+pub zip_weaker : {X Y : Type 0} (R S : X → Y → Type 0) (xs : List X) (ys : List Y) → AllZip R xs ys → ((j : ℕ) (x : X) (y : Y) → slice_get ys j ≡ Some y → R x y → S x y) → AllZip S xs ys
+zip_weaker R S [] [] h f = tt
+zip_weaker R S [] (y ∷ ys) h f = absurd h
+zip_weaker R S (x ∷ xs) [] h f = absurd h
+zip_weaker R S (x ∷ xs) (y ∷ ys) h f = (f 0 x y refl h.0, zip_weaker R S xs ys h.1 (λ j a b e r. f (suc j) a b e r))
+
+-- another pair at one place
+pub zip_set : {X Y : Type 0} (R S : X → Y → Type 0) (xs : List X) (ys : List Y) (k : ℕ) (x : X) (y : Y) → AllZip R xs ys
+    → ((j : ℕ) (a : X) (b : Y) → j ≢ k → slice_get ys j ≡ Some b → R a b → S a b) → S x y → AllZip S (set xs k x) (set ys k y)
+zip_set R S [] [] k x y h f s = tt
+zip_set R S [] (b ∷ ys) k x y h f s = absurd h
+zip_set R S (a ∷ xs) [] k x y h f s = absurd h
+zip_set R S (a ∷ xs) (b ∷ ys) zero x y h f s = (s, zip_weaker R S xs ys h.1 (λ j c d e r. f (suc j) c d (omega arith) e r))
+zip_set R S (a ∷ xs) (b ∷ ys) (suc k) x y h f s =
+    (f 0 a b (omega arith) refl h.0, zip_set R S xs ys k x y h.1 (λ j c d n e r. f (suc j) c d (λ q. n (omega (arith, q))) e r) s)
+
+-- ---- one list
+
+pub get_some : {X : Type 0} (xs : List X) (k : ℕ) (x : X) → k < length xs → x ≡ get_or xs k x → slice_get xs k ≡ Some x
+get_some [] k x l e = absurd (omega arith)
+get_some (a ∷ xs) zero x l e = ap Some (sym e)
+get_some (a ∷ xs) (suc k) x l e = get_some xs k x (omega arith) e
+
+pub get_set_same : {X : Type 0} (xs : List X) (k : ℕ) (x y : X) → slice_get xs k ≡ Some x → slice_get (set xs k y) k ≡ Some y
+get_set_same [] k x y e = cc
+get_set_same (a ∷ xs) zero x y e = refl
+get_set_same (a ∷ xs) (suc k) x y e = get_set_same xs k x y e
+
+pub get_set_other : {X : Type 0} (xs : List X) (k j : ℕ) (y : X) → j ≢ k → slice_get (set xs k y) j ≡ slice_get xs j
+get_set_other [] k j y n = refl
+get_set_other (a ∷ xs) zero zero y n = absurd (n refl)
+get_set_other (a ∷ xs) zero (suc j) y n = refl
+get_set_other (a ∷ xs) (suc k) zero y n = refl
+get_set_other (a ∷ xs) (suc k) (suc j) y n = get_set_other xs k j y (λ q. n (omega (arith, q)))
+
+pub get_push : {X : Type 0} (xs : List X) (y : X) (k : ℕ) (x : X) → slice_get xs k ≡ Some x → slice_get (xs ++ y ∷ []) k ≡ Some x
+get_push [] y k x e = cc
+get_push (a ∷ xs) y zero x e = e
+get_push (a ∷ xs) y (suc k) x e = get_push xs y k x e
+
+-- an item after a push is an old one, or the new one
+pub get_push_cases : {X : Type 0} (P : X → Type 0) (xs : List X) (y : X) (k : ℕ) (x : X) → slice_get (xs ++ y ∷ []) k ≡ Some x → (slice_get xs k ≡ Some x → P x) → P y → P x
+get_push_cases P [] y zero x e old new = let same : y ≡ x = cc in subst P same new
+get_push_cases P [] y (suc k) x e old new = absurd (cc)
+get_push_cases P (a ∷ xs) y zero x e old new = old e
+get_push_cases P (a ∷ xs) y (suc k) x e old new = get_push_cases P xs y k x e old new
+
+-- another item that stands for the same
+pub zip_replace : {X Y : Type 0} (R : X → Y → Type 0) (xs : List X) (ys : List Y) (k : ℕ) (x : X) (y : Y) → AllZip R xs ys → slice_get ys k ≡ Some y → R x y → AllZip R (set xs k x) ys
+zip_replace R [] [] k x y h e r = tt
+zip_replace R [] (b ∷ ys) k x y h e r = absurd h
+zip_replace R (a ∷ xs) [] k x y h e r = absurd h
+zip_replace R (a ∷ xs) (b ∷ ys) zero x y h e r = let same : y ≡ b = cc in (subst (R x) same r, h.1)
+zip_replace R (a ∷ xs) (b ∷ ys) (suc k) x y h e r = (h.0, zip_replace R xs ys k x y h.1 e r)

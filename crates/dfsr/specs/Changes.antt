@@ -1,14 +1,14 @@
 -- What a change does to what is held of a member.
-use Rattle.std.specs.Prelude.{◌≡◌, ℕ, ◌+◌, ◌++◌, false, List, [], find, string_bytes}
+use Rattle.std.specs.Prelude.{◌≡◌, ◌≤◌, ℕ, ◌+◌, ◌++◌, false, List, [], find, length, string_bytes}
 use Rattle.frs_base.specs.declared.kind.MemberKind.{MemberKind}
 use Rattle.frs_base.specs.Versions.{same_uid}
-use Rattle.frs_base.specs.declared.version.Gvsn.{Gvsn}
 use Rattle.version_vector.specs.Versions.{covers}
 use Rattle.win_order.specs.declared.update.Update.{Update}
 use Rattle.dfsr.specs.declared.member.Member.{Member}
 use Rattle.dfsr.specs.Change.{base_of, born_of, file_update, name_of, new_file}
 use Rattle.dfsr.specs.Putting.{put_record}
 use Rattle.dfsr.specs.Records.{plus}
+use Rattle.dfsr.specs.Text.{IsVector}
 
 -- the update of a change at a path
 abbrev pub made_by : Member → ℕ → List ℕ → ℕ → Update
@@ -25,7 +25,8 @@ pub record Changes (old new : Member) (db : ℕ) (path : List ℕ) (moment : ℕ
   pub files : new.files.items ≡ old.files.items ++ new_file old.files.items old.next path
   pub next : new.next ≡ old.next + 1
   pub records : new.records.items ≡ put_record (made_by old db path moment) old.records.items
-  pub vector : (g : Gvsn) → covers new.vector g ≡ plus (covers old.vector) (record { db = db; version = old.next }) g
+  pub vector : IsVector (plus (covers old.vector) (record { db = db; version = old.next })) new.vector
+  pub within : length new.vector ≤ 65536
 
 -- all that stands for a member is as it was
 pub record IsUnchanged (old new : Member) : Type 0 where

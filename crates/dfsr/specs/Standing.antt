@@ -3,9 +3,9 @@ use Rattle.std.specs.Prelude.{◌≡◌, ◌<◌, ◌≤◌, ◌+◌, ◌^◌, �
 use Rattle.std.specs.List.{AllZip}
 use Rattle.frs_base.specs.Identifiers.{database_of}
 use Rattle.frs_base.specs.declared.version.Gvsn.{Gvsn}
-use Rattle.version_vector.specs.Versions.{covers}
 use Rattle.win_order.specs.declared.update.Update.{Update}
 use Rattle.dfsr.specs.Records.{Covered, In, IsRising, IsWinner, Lists}
+use Rattle.dfsr.specs.Text.{IsVector}
 use Rattle.dfsr.specs.World.{Member, World}
 use Rattle.dfsr.specs.declared.member.Member.{Member as Held}
 use Rattle.dfsr.specs.declared.engine.Engine.{Engine}
@@ -17,7 +17,7 @@ pub record MemberStands (all : List Update) (held : Held) (member : Member) : Ty
   pub finished : held.finished ≡ member.finished
   pub files : held.files.items ≡ member.files
   pub next : held.next ≡ member.next
-  pub vector : (g : Gvsn) → covers held.vector g ≡ member.known g
+  pub vector : IsVector member.known held.vector
   pub records : Lists (IsWinner (Covered all member.known)) held.records.items
 
 -- a member has made this version

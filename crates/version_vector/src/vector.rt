@@ -83,6 +83,7 @@ impl Vector {
     pub fn add(&mut self, alloc: Global, g: Gvsn) -> Result<(), VectorError>
         requires { g.version < 2 ^ 64 - 1 }
         ensures set { OnOk result ((h : Gvsn) → covers self.new h ≡ (same_gvsn g h || covers self.old h)) }
+        ensures canonical { IsCanonical self.new }
         ensures within { OnOk result (length self.new ≤ 65_536) }
         ensures full { IfErr result (λ e. IsTooLong e (λ h. same_gvsn g h || covers self.old h)) }
         ensures err { OnErr result (self.new ≡ self.old) }
@@ -93,6 +94,7 @@ impl Vector {
     /// Adds the versions of another set. After an error the set is as it was.
     pub fn merge(&mut self, alloc: Global, other: &Vector) -> Result<(), VectorError>
         ensures set { OnOk result ((h : Gvsn) → covers self.new h ≡ (covers other.now h || covers self.old h)) }
+        ensures canonical { IsCanonical self.new }
         ensures within { OnOk result (length self.new ≤ 65_536) }
         ensures full { IfErr result (λ e. IsTooLong e (λ h. covers other.now h || covers self.old h)) }
         ensures err { OnErr result (self.new ≡ self.old) }

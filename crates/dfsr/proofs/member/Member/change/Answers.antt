@@ -45,5 +45,6 @@ returns-clause-ok c =
       files = c.add_file.ensures ∙ (λ i. c.in_ok-reserve.ensures.items i ++ file i);
       next = refl;
       records = c.put_record.ensures ∙ (λ i. put_record (update i) (c.in_ok-reserve-2.ensures.items i));
-      vector = λ g. c.in_ok-add.ensures.set g ∙ ap (λ u. same_gvsn u.gvsn g || covers c.args.self.now.vector g) update;
+      vector = record { canonical = c.in_ok-add.ensures.canonical; covering = λ g. c.in_ok-add.ensures.set g ∙ ap (λ u. same_gvsn u.gvsn g || covers c.args.self.now.vector g) update };
+      within = c.in_ok-add.ensures.within;
     }

@@ -1,0 +1,83 @@
+-- No number grows by more than one a line.
+use Rattle.std.proofs.Common.{◌≡◌, ◌<◌, ◌≤◌, ◌+◌, ◌^◌, ℕ, Bool, true, false, cond, List, [], ◌∷◌, ◌++◌, max, set, sym, ap, subst, Option, Some, None, All, arith}
+use Rattle.std.specs.Prelude.{IfSome, find, option_map, unwrap_or}
+use Rattle.std.specs.List.{AllByRecursion}
+use Rattle.std.proofs.lemmas.List.Elements.{All-from_recursion, All-push, All-set, All-weaker, recursion_from_All}
+use Rattle.frs_base.specs.declared.kind.MemberKind.{MemberKind}
+use Rattle.win_order.specs.declared.update.Update.{Update}
+use Rattle.dfsr.specs.Change.{clock_of}
+use Rattle.dfsr.specs.Changes.{Changes, IsFresh, IsUnchanged, made_by}
+use Rattle.dfsr.specs.Putting.{put_record}
+use Rattle.dfsr.specs.Records.{IsRising}
+use Rattle.dfsr.specs.Standing.{HasRoom, IsSmall, IsWithin}
+use Rattle.dfsr.specs.declared.engine.Engine.{Engine}
+use Rattle.dfsr.specs.declared.member.Member.{Member}
+use Rattle.dfsr.proofs.Listing.{put_all, put_rising}
+
+-- a clock below 2^61 and so many lines
+abbrev IsEarly : ℕ → Update → Type 0
+IsEarly n u = u.clock < 2 ^ 61 + n
+
+early_later : (n : ℕ) (records : List Update) → All (IsEarly n) records → All (IsEarly (n + 1)) records
+early_later n records a = All-weaker (IsEarly n) (IsEarly (n + 1)) (λ r early. omega arith) records a
+
+find_all : (P : Update → Type 0) (p : Update → Bool) (xs : List Update) → AllByRecursion P xs → IfSome (find p xs) P
+find_all P p [] a = tt
+find_all P p (x ∷ xs) a = by (p x) (find_all P p xs a.1)
+  where
+    by : (b : Bool) → IfSome (find p xs) P → IfSome (cond b (Some x) (find p xs)) P
+    by true rest = a.0
+    by false rest = rest
+
+clock_small : (n moment : ℕ) (held : Option Update) → moment < 2 ^ 61 → IfSome held (IsEarly n) → clock_of moment held < 2 ^ 61 + (n + 1)
+clock_small n moment None low early = omega arith
+clock_small n moment (Some r) low early = omega arith
+
+-- ---- members
+
+pub small_later : (n : ℕ) (m : Member) → IsSmall n m → IsSmall (n + 1) m
+small_later n m s = record { next = let small = s.next in omega arith; clocks = early_later n m.records.items s.clocks; rising = s.rising }
+
+pub small_fresh : (n : ℕ) (m : Member) (name : List ℕ) (kind : MemberKind) → IsFresh name kind m → IsSmall n m
+small_fresh n m name kind f = record {
+  next = let fresh = f.next in omega arith;
+  clocks = subst (All (IsEarly n)) (sym f.records) (λ k d within. absurd (omega arith));
+  rising = subst IsRising (sym f.records) tt;
+}
+
+pub small_unchanged : (n : ℕ) (old new : Member) → IsUnchanged old new → IsSmall n old → IsSmall n new
+small_unchanged n old new c s = record {
+  next = let same = c.next in let small = s.next in omega arith;
+  clocks = subst (All (IsEarly n)) (sym c.records) s.clocks;
+  rising = subst IsRising (sym c.records) s.rising;
+}
+
+pub small_changed : (n : ℕ) (old new : Member) (db : ℕ) (path : List ℕ) (moment : ℕ) → moment < 2 ^ 61 → Changes old new db path moment → IsSmall n old → IsSmall (n + 1) new
+small_changed n old new db path moment low c s =
+    let records = old.records.items in
+    let u = made_by old db path moment in
+    let early = recursion_from_All (IsEarly n) records s.clocks in
+    let later = recursion_from_All (IsEarly (n + 1)) records (early_later n records s.clocks) in
+    let now : IsEarly (n + 1) u = clock_small n moment _ low (find_all (IsEarly n) _ records early) in
+    record {
+      next = let more = c.next in let small = s.next in omega arith;
+      clocks = subst (All (IsEarly (n + 1))) (sym c.records) (All-from_recursion (IsEarly (n + 1)) (put_record u records) (put_all (IsEarly (n + 1)) u records later now));
+      rising = subst IsRising (sym c.records) (put_rising u records s.rising);
+    }
+
+-- ---- engines
+
+pub within_later : (n : ℕ) (members : List Member) → All (IsSmall n) members → All (IsSmall (n + 1)) members
+within_later n members a = All-weaker (IsSmall n) (IsSmall (n + 1)) (λ m s. small_later n m s) members a
+
+pub within_push : (n : ℕ) (members new : List Member) (m : Member) → All (IsSmall n) members → IsSmall (n + 1) m → new ≡ members ++ m ∷ [] → All (IsSmall (n + 1)) new
+within_push n members new m a s is = subst (All (IsSmall (n + 1))) (sym is) (All-push (IsSmall (n + 1)) members m (within_later n members a) s)
+
+pub within_set : (n : ℕ) (members new : List Member) (k : ℕ) (m : Member) → All (IsSmall n) members → IsSmall (n + 1) m → new ≡ set members k m → All (IsSmall (n + 1)) new
+within_set n members new k m a s is = subst (All (IsSmall (n + 1))) (sym is) (All-set (IsSmall (n + 1)) members k m s (within_later n members a))
+
+pub room_within : (n : ℕ) (engine : Engine) → n < 2 ^ 61 → IsWithin n engine → HasRoom engine
+room_within n engine few a k d within =
+    let s = a k d within in
+    let next : d.next ≤ 9 + n = ? in
+    ?
