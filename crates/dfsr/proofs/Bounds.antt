@@ -1,6 +1,6 @@
 -- No number grows by more than one a line.
-use Rattle.std.proofs.Common.{◌≡◌, ◌<◌, ◌≤◌, ◌+◌, ◌^◌, ℕ, Bool, true, false, cond, List, [], ◌∷◌, ◌++◌, max, set, sym, ap, subst, Option, Some, None, All, arith}
-use Rattle.std.specs.Prelude.{IfSome, find, option_map, unwrap_or}
+use Rattle.std.proofs.Common.{◌≡◌, ◌<◌, ◌≤◌, ◌+◌, ◌^◌, ℕ, zero, suc, Bool, true, false, cond, List, [], ◌∷◌, ◌++◌, max, set, refl, sym, ap, subst, Option, Some, None, All, arith}
+use Rattle.std.specs.Prelude.{IfSome, find, option_map, slice_get, unwrap_or}
 use Rattle.std.specs.List.{AllByRecursion}
 use Rattle.std.proofs.lemmas.List.Elements.{All-from_recursion, All-push, All-set, All-weaker, recursion_from_All}
 use Rattle.frs_base.specs.declared.kind.MemberKind.{MemberKind}
@@ -70,14 +70,31 @@ small_changed n old new db path moment low c s =
 pub within_later : (n : ℕ) (members : List Member) → All (IsSmall n) members → All (IsSmall (n + 1)) members
 within_later n members a = All-weaker (IsSmall n) (IsSmall (n + 1)) (λ m s. small_later n m s) members a
 
+small_at : (n : ℕ) (members : List Member) (k : ℕ) (m : Member) → All (IsSmall n) members → slice_get members k ≡ Some m → IsSmall n m
+small_at n members k m a at = item_has (IsSmall n) members k m (recursion_from_All (IsSmall n) members a) at
+  where
+    item_has : {X : Type 0} (P : X → Type 0) (xs : List X) (k : ℕ) (x : X) → AllByRecursion P xs → slice_get xs k ≡ Some x → P x
+    item_has P [] k x a at = absurd (cc)
+    item_has P (y ∷ xs) zero x a at = let same : y ≡ x = cc in subst P same a.0
+    item_has P (y ∷ xs) (suc k) x a at = item_has P xs k x a.1 at
+
 pub within_push : (n : ℕ) (members new : List Member) (m : Member) → All (IsSmall n) members → IsSmall (n + 1) m → new ≡ members ++ m ∷ [] → All (IsSmall (n + 1)) new
 within_push n members new m a s is = subst (All (IsSmall (n + 1))) (sym is) (All-push (IsSmall (n + 1)) members m (within_later n members a) s)
 
 pub within_set : (n : ℕ) (members new : List Member) (k : ℕ) (m : Member) → All (IsSmall n) members → IsSmall (n + 1) m → new ≡ set members k m → All (IsSmall (n + 1)) new
 within_set n members new k m a s is = subst (All (IsSmall (n + 1))) (sym is) (All-set (IsSmall (n + 1)) members k m s (within_later n members a))
 
+pub within_changed : (n : ℕ) (members : List Member) (k : ℕ) (old new : Member) (db : ℕ) (path : List ℕ) (moment : ℕ) → All (IsSmall n) members → slice_get members k ≡ Some old
+    → moment < 2 ^ 61 → Changes old new db path moment → All (IsSmall (n + 1)) (set members k new)
+within_changed n members k old new db path moment a at low c = within_set n members _ k new a (small_changed n old new db path moment low c (small_at n members k old a at)) refl
+
+pub within_unchanged : (n : ℕ) (members : List Member) (k : ℕ) (old new : Member) → All (IsSmall n) members → slice_get members k ≡ Some old → IsUnchanged old new → All (IsSmall (n + 1)) (set members k new)
+within_unchanged n members k old new a at c = within_set n members _ k new a (small_later n new (small_unchanged n old new c (small_at n members k old a at))) refl
+
 pub room_within : (n : ℕ) (engine : Engine) → n < 2 ^ 61 → IsWithin n engine → HasRoom engine
-room_within n engine few a k d within =
-    let s = a k d within in
-    let next : d.next ≤ 9 + n = ? in
-    ?
+room_within n engine few a = All-weaker (IsSmall n) IsRoomy (λ m s. room_of m s) engine.members.items a
+  where
+    IsRoomy : Member → Type 0
+    IsRoomy m = (m.next < 2 ^ 62) × All (λ r. r.clock < 2 ^ 62) m.records.items × IsRising m.records.items
+    room_of : (m : Member) → IsSmall n m → IsRoomy m
+    room_of m s = (let small = s.next in omega arith, All-weaker (IsEarly n) (λ r. r.clock < 2 ^ 62) (λ r early. omega arith) m.records.items s.clocks, s.rising)

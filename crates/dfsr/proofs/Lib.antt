@@ -13,5 +13,6 @@ pub mod Made
 pub mod Recording
 pub mod Members
 pub mod Bounds
+pub mod Lasting
 pub mod Causes
 pub mod Writing

@@ -1,5 +1,5 @@
 -- The members of an engine and those of the world that it stands for.
-use Rattle.std.proofs.Common.{◌≡◌, ◌≢◌, ◌<◌, ◌≤◌, ◌+◌, ℕ, zero, suc, Bool, true, false, List, [], ◌∷◌, ◌++◌, length, leb, map, set, refl, sym, ap, ◌∙◌, subst, Option, Some, None, MatchBool, bytes_eq, arith}
+use Rattle.std.proofs.Common.{◌≡◌, ◌≢◌, ◌<◌, ◌≤◌, ◌+◌, ℕ, zero, suc, Bool, true, false, List, [], ◌∷◌, ◌++◌, length, get_or, leb, map, set, refl, sym, ap, ◌∙◌, subst, Option, Some, None, MatchBool, bytes_eq, arith}
 use Rattle.std.specs.Prelude.{codes, decimal, find, flat_map, is_some, nat_le, position, slice_get, string_bytes}
 use Rattle.std.specs.List.{AllZip}
 use Rattle.std.proofs.lemmas.Bool.Decides.{nat_tests}
@@ -31,7 +31,7 @@ use Rattle.dfsr.specs.Text.{Acts, Does, Exists, IsRefused, IsVector, Unknown, Ve
 use Rattle.dfsr.specs.World.{Member, World, fresh_member, names_of, place_of, with_member}
 use Rattle.dfsr.proofs.Listing.{found_held}
 use Rattle.dfsr.proofs.Made.{sound_with_member}
-use Rattle.dfsr.proofs.Pairs.{zip_at, zip_map, zip_position, zip_push, zip_replace, zip_set}
+use Rattle.dfsr.proofs.Pairs.{indexed, zip_at, zip_map, zip_position, zip_push, zip_replace, zip_set}
 use Rattle.dfsr.proofs.Recording.{change_sound, other_records, own_records}
 use Rattle.dfsr.proofs.Refusals.{acts_if, acts_unless, refused_if, refused_unless}
 
@@ -59,6 +59,12 @@ found_at p (x ∷ xs) k e = get_within (x ∷ xs) k x (position-Some p (x ∷ xs
     get_within (x ∷ xs) zero d within = (x, refl)
     get_within (x ∷ xs) (suc k) d within = get_within xs k d (omega arith)
 
+-- the member that a name finds
+pub held_found : (members : List Held) (name : List ℕ) (k : ℕ) (h : Held) → place_held members name ≡ Some k → h ≡ get_or members k h → slice_get members k ≡ Some h
+held_found members name k h held is =
+    let (x, at) = found_at _ members k held in
+    indexed members k x h at is
+
 -- ---- `member`
 
 pub add_known : (engine : Engine) (w : World) (name : List ℕ) (kind : MemberKind) → Stands engine w → is_some (place_held engine.members.items name) ≡ true
@@ -73,7 +79,7 @@ add_new engine w name kind s held =
     let place : is_some (place_of w.members name) ≡ false = ap is_some (sym (place_same w.all _ w.members name s.members)) ∙ held in
     acts_unless _ (Exists name) _ place (refl, refl)
 
-covers_nothing : (all : List Update) → Lists (IsWinner (Covered all (λ _. false))) []
+pub covers_nothing : (all : List Update) → Lists (IsWinner (Covered all (λ _. false))) []
 covers_nothing all = record { rising = tt; each = λ u h. absurd h; whole = λ u w. absurd (let t = w.among.1 in cc) }
 
 fresh_stands : (all : List Update) (held : Held) (name : List ℕ) (kind : MemberKind) → IsFresh name kind held → MemberStands all held (fresh_member name kind)
@@ -253,3 +259,22 @@ change_too_wide engine w name path moment k count h m s held at stands long =
     (long.0, λ list form same. long.1 list form (λ g. same g ∙ (λ i. plus (λ x. sym (stands.vector.covering x) i) (record { db = database_of (k + 1); version = sym stands.next i }) g))) in
     acts_if _ (Unknown name) _ (ap is_some place)
     (k, m, found, (place, at), found_held w.all m.known h.records.items (uid_at k m path) stands.records, too_wide w _ _ count _ more wide)
+
+pub change_done : (old new : Engine) (w : World) (name path : List ℕ) (moment k db : ℕ) (h h' : Held) → Stands old w → place_held old.members.items name ≡ Some k → slice_get old.members.items k ≡ Some h
+    → db ≡ database_of (k + 1) → Changes h h' db path moment → new.members.items ≡ set old.members.items k h'
+    → (world : World) × Does w (lines.Change name path moment) (printed (change_words name h.next)) world × Stands new world
+change_done old new w name path moment k db h h' s held at own c is =
+    let (m, at', stands) = zip_at (MemberStands w.all) old.members.items w.members k h s.members at in
+    let changes = subst (λ d. Changes h h' d path moment) own c in (
+      after_change w k m path (change_of k m path moment (held_at k m path h.records.items)),
+      change_known old w name path moment k h h' m s held at' stands changes,
+      change_stands old new w k h h' m path moment s at' stands changes is,
+    )
+
+pub change_cut : (old new : Engine) (w : World) (name path : List ℕ) (moment k db count : ℕ) (h h' : Held) → Stands old w → place_held old.members.items name ≡ Some k → slice_get old.members.items k ≡ Some h
+    → db ≡ database_of (k + 1) → IsTooLong (errors.VectorFull count) (plus (covers h.vector) (record { db = db; version = h.next })) → IsUnchanged h h' → new.members.items ≡ set old.members.items k h'
+    → (world : World) × Does w (lines.Change name path moment) (printed (refusal_words (VectorFull count))) world × Stands new world
+change_cut old new w name path moment k db count h h' s held at own long c is =
+    let (m, at', stands) = zip_at (MemberStands w.all) old.members.items w.members k h s.members at in
+    let wide = subst (λ d. IsTooLong (errors.VectorFull count) (plus (covers h.vector) (record { db = d; version = h.next }))) own long in
+    (w, change_too_wide old w name path moment k count h m s held at' stands wide, same_stands old new w k h h' m s at' stands c is)

@@ -98,3 +98,17 @@ zip_replace R [] (b ∷ ys) k x y h e r = absurd h
 zip_replace R (a ∷ xs) [] k x y h e r = absurd h
 zip_replace R (a ∷ xs) (b ∷ ys) zero x y h e r = let same : y ≡ b = cc in (subst (R x) same r, h.1)
 zip_replace R (a ∷ xs) (b ∷ ys) (suc k) x y h e r = (h.0, zip_replace R xs ys k x y h.1 e r)
+
+-- the item that an index finds
+pub indexed : {X : Type 0} (xs : List X) (k : ℕ) (x y : X) → slice_get xs k ≡ Some x → y ≡ get_or xs k y → slice_get xs k ≡ Some y
+indexed [] k x y at is = absurd (cc)
+indexed (a ∷ xs) zero x y at is = ap Some (sym is)
+indexed (a ∷ xs) (suc k) x y at is = indexed xs k x y at is
+
+-- an item after one was set is the one that was set, or an old one at another place
+pub get_set_cases : {X : Type 0} (P : X → Type 0) (xs : List X) (k j : ℕ) (x y z : X) → slice_get xs k ≡ Some x → slice_get (set xs k y) j ≡ Some z → P y → (j ≢ k → slice_get xs j ≡ Some z → P z) → P z
+get_set_cases P [] k j x y z at found new old = absurd (cc)
+get_set_cases P (a ∷ xs) zero zero x y z at found new old = let same : y ≡ z = cc in subst P same new
+get_set_cases P (a ∷ xs) zero (suc j) x y z at found new old = old (omega arith) found
+get_set_cases P (a ∷ xs) (suc k) zero x y z at found new old = old (omega arith) found
+get_set_cases P (a ∷ xs) (suc k) (suc j) x y z at found new old = get_set_cases P xs k j x y z at found new (λ n e. old (λ q. n (omega (arith, q))) e)

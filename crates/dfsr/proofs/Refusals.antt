@@ -1,5 +1,5 @@
 -- A line acts, or prints its first refusal.
-use Rattle.std.proofs.Common.{◌≡◌, ℕ, List, Bool, true, false, cond, sym, subst, Some, None, MatchOption, Result, Ok, Err, IfOk}
+use Rattle.std.proofs.Common.{◌≡◌, ℕ, List, Bool, true, false, cond, sym, subst, Some, None, MatchOption, Result, Ok, Err, IfOk, OnOk}
 use Rattle.std.specs.Prelude.{String, string_bytes}
 use Rattle.std.specs.declared.alloc.Global.{Global}
 
@@ -24,3 +24,8 @@ refused_if A R x false e r = absurd (cc)
 pub said_of : {E : Type 0} (r : Result (String Global) E) (text : List ℕ) (Q : List ℕ → Type 0) → IfOk r (λ made. string_bytes made ≡ text) → Q text → IfOk r (λ made. Q (string_bytes made))
 said_of (Ok made) text Q is q = subst Q (sym is) q
 said_of (Err e) text Q is q = tt
+
+-- what holds anyhow holds after a text
+pub said_always : {T E : Type 0} (r : Result T E) (Q : Type 0) → Q → OnOk r Q
+said_always (Ok made) Q q = q
+said_always (Err e) Q q = tt

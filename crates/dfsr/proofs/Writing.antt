@@ -8,7 +8,7 @@ use Rattle.dfsr.specs.declared.line.Line.{Line}
 use Rattle.dfsr.specs.Answers.{PrintsAll, PrintsSome}
 use Rattle.dfsr.specs.Text.{Does, Run}
 use Rattle.dfsr.specs.World.{World, fresh_world}
-use Rattle.dfsr.proofs.Members.{run_goes_on}
+use Rattle.dfsr.proofs.Lasting.{run_goes_on}
 use Rattle.dfsr.proofs.Runs.{run_then_does}
 
 -- some of what the first lines print is some of what all print

@@ -1,4 +1,4 @@
-use Rattle.dfsr.proofs.Members.{every_line}
+use Rattle.dfsr.proofs.Lasting.{every_line}
 use Rattle.dfsr.proofs.laws.every_line_prints.Goals as goal
 
 pub returns : goal.returns

@@ -1,0 +1,230 @@
+-- What lasts through a run, and that a line does one thing.
+use Rattle.std.proofs.Common.{◌≡◌, ◌++◌, ℕ, Bool, true, false, cond, List, [], ◌∷◌, length, refl, sym, ap, ◌∙◌, subst, Option, Some, None, MatchBool, MatchOption, bytes_eq}
+use Rattle.std.specs.Prelude.{codes, flat_map, is_some, nat_le, slice_get}
+use Rattle.frs_base.specs.declared.kind.MemberKind.{MemberKind}
+use Rattle.frs_base.specs.declared.version.Gvsn.{Gvsn}
+use Rattle.frs_base.specs.declared.version.Uid.{Uid}
+use Rattle.version_vector.specs.Places.{one_version}
+use Rattle.version_vector.specs.Unions.{inserted}
+use Rattle.version_vector.specs.declared.interval.Interval.{Interval}
+use Rattle.version_vector.proofs.Uniqueness.{unique}
+use Rattle.win_order.specs.declared.update.Update.{Update}
+use Rattle.dfsr.specs.declared.line.Line.{Line}
+use Rattle.dfsr.specs.declared.line.Line.TheVariants as lines
+use Rattle.dfsr.specs.Answers.{IsText}
+use Rattle.dfsr.specs.Change.{change_of, next_gvsn, uid_at}
+use Rattle.dfsr.specs.Printed.{printed, record_words, vector_words}
+use Rattle.dfsr.specs.Records.{Covered, In, IsHeld, IsWinner, Lists, plus}
+use Rattle.dfsr.specs.Standing.{IsSound}
+use Rattle.dfsr.specs.Text.{Acts, Does, Exists, IsRefused, IsVector, Run, Shows, Unknown, VectorFull, Widens, after_change, change_words, refusal_words}
+use Rattle.dfsr.specs.World.{IsNamed, Member, World, fresh_member, fresh_world, names_of, place_of, with_member}
+use Rattle.dfsr.proofs.Causes.{one_script}
+use Rattle.dfsr.proofs.Listing.{found_held, one_list}
+use Rattle.dfsr.proofs.Made.{sound_with_member}
+use Rattle.dfsr.proofs.Members.{covers_nothing, found_at, held_at, vector_more}
+use Rattle.dfsr.proofs.Pairs.{get_push_cases, get_set_cases}
+use Rattle.dfsr.proofs.Recording.{change_sound, other_records, own_records}
+use Rattle.dfsr.proofs.Refusals.{acts_if, acts_unless, refused_if, refused_unless}
+use Rattle.dfsr.proofs.Runs.{run_then_run}
+use Rattle.dfsr.proofs.Winning.{one_winner}
+
+-- a vector covers what the member covers, and a list has its winners
+abbrev HasLists : List Update → Member → Type 0
+HasLists all m = (vector : List Interval) × (records : List Update) × IsVector m.known vector × Lists (IsWinner (Covered all m.known)) records
+
+-- what every line keeps
+record IsKept (w : World) : Type 0 where
+  sound : IsSound w
+  lists : (k : ℕ) (m : Member) → slice_get w.members k ≡ Some m → HasLists w.all m
+
+fresh_is_kept : IsKept fresh_world
+fresh_is_kept = record { sound = record { recorded = λ u h. absurd h; known = λ k m at g t. absurd (cc); one_each = λ u v h. absurd h }; lists = λ k m at. absurd (cc) }
+
+kept_with_member : (w : World) (name : List ℕ) (kind : MemberKind) → IsKept w → IsKept (with_member w (fresh_member name kind))
+kept_with_member w name kind kept = record {
+  sound = sound_with_member w (fresh_member name kind) (λ g. refl) kept.sound;
+  lists = λ k m at. get_push_cases (HasLists w.all) w.members (fresh_member name kind) k m at (kept.lists k m)
+      ([], [], record { canonical = tt; covering = λ g. refl }, covers_nothing w.all);
+}
+
+-- the member after its change, and the others beside it
+kept_after_change : (w : World) (k : ℕ) (m : Member) (path : List ℕ) (moment : ℕ) (held : Option Update) → IsKept w → slice_get w.members k ≡ Some m → IsHeld (Covered w.all m.known) (uid_at k m path) held
+    → IsKept (after_change w k m path (change_of k m path moment held))
+kept_after_change w k m path moment held kept at h =
+    let u = change_of k m path moment held in
+    let (vector, records, v, l) = kept.lists k m at in
+    record {
+      sound = change_sound w k m path moment held kept.sound at;
+      lists = λ j n at'. get_set_cases (HasLists (w.all ++ u ∷ [])) w.members k j m _ n at at'
+          (inserted (one_version (next_gvsn k m)) vector, _, vector_more m.known vector (next_gvsn k m) v, own_records w k m path moment held records kept.sound at h l)
+          (λ other old. let (vector, records, v, l) = kept.lists j n old in (vector, records, v, other_records w k m j n u records kept.sound at old refl l));
+    }
+
+-- what holds of the old world and of the widened one holds of the new one
+widened : (A : Type 0) (P : World → Type 0) (w : World) (count : ℕ) (text : List ℕ) (new : World) (b : Bool) → P w → (A → P new) → MatchBool b A (IsRefused w (VectorFull count) text new) → P new
+widened A P w count text new true old f acts = f acts
+widened A P w count text new false old f (said, same) = subst P (sym same) old
+
+does_kept : (w : World) (line : Line) (text : List ℕ) (new : World) → IsKept w → Does w line text new → IsKept new
+does_kept w (lines.Member name kind) text new kept does = by (is_some (place_of w.members name)) does
+  where
+    by : (b : Bool) → MatchOption (cond b (Some (Exists name)) None) (Acts w (lines.Member name kind) text new) (λ why. IsRefused w why text new) → IsKept new
+    by true (said, same) = subst IsKept (sym same) kept
+    by false (said, is) = subst IsKept (sym is) (kept_with_member w name kind kept)
+does_kept w (lines.Change name path moment) text new kept does = by (is_some (place_of w.members name)) does
+  where
+    by : (b : Bool) → MatchOption (cond b None (Some (Unknown name))) (Acts w (lines.Change name path moment) text new) (λ why. IsRefused w why text new) → IsKept new
+    by true (k, m, held, named, h, (vector, v, acts)) =
+        widened _ IsKept w (length vector) text new (nat_le (length vector) 65536) kept (λ a. subst IsKept (sym a.1) (kept_after_change w k m path moment held kept named.1 h)) acts
+    by false (said, same) = subst IsKept (sym same) kept
+does_kept w (lines.Show name) text new kept does = by (is_some (place_of w.members name)) does
+  where
+    by : (b : Bool) → MatchOption (cond b None (Some (Unknown name))) (Acts w (lines.Show name) text new) (λ why. IsRefused w why text new) → IsKept new
+    by true (k, m, named, shows, same) = subst IsKept (sym same) kept
+    by false (said, same) = subst IsKept (sym same) kept
+
+run_kept : (w : World) (before : List Line) (text : List ℕ) (new : World) → IsKept w → Run w before text new → IsKept new
+run_kept w [] text new kept (said, is) = subst IsKept (sym is) kept
+run_kept w (line ∷ before) text new kept (first, mid, rest, does, run, said) = run_kept mid before rest new (does_kept w line first mid kept does) run
+
+-- ---- every line prints
+
+-- a change with a record and a vector at hand
+change_prints : (w : World) (name path : List ℕ) (moment k : ℕ) (m : Member) (held : Option Update) (vector : List Interval) → IsNamed w name k m → IsHeld (Covered w.all m.known) (uid_at k m path) held
+    → IsVector (plus m.known (next_gvsn k m)) vector → (text : List ℕ) × (new : World) × Does w (lines.Change name path moment) text new
+change_prints w name path moment k m held vector named h v = by (nat_le (length vector) 65536) refl
+  where
+    Then : List ℕ → World → Bool → Type 0
+    Then text new t = MatchBool t ((text ≡ printed (change_words name m.next)) × (new ≡ after_change w k m path (change_of k m path moment held))) (IsRefused w (VectorFull (length vector)) text new)
+    does : (text : List ℕ) (new : World) → Then text new (nat_le (length vector) 65536) → (text : List ℕ) × (new : World) × Does w (lines.Change name path moment) text new
+    does text new then = (text, new, acts_if _ (Unknown name) _ (ap is_some named.0) (k, m, held, named, h, (vector, v, then)))
+    by : (b : Bool) → nat_le (length vector) 65536 ≡ b → (text : List ℕ) × (new : World) × Does w (lines.Change name path moment) text new
+    by true e = does (printed (change_words name m.next)) (after_change w k m path (change_of k m path moment held)) (subst (Then _ _) (sym e) (refl, refl))
+    by false e = does (printed (refusal_words (VectorFull (length vector)))) w (subst (Then _ _) (sym e) (refl, refl))
+
+line_prints : (w : World) → IsKept w → (line : Line) → (text : List ℕ) × (new : World) × Does w line text new
+line_prints w kept (lines.Member name kind) = by (is_some (place_of w.members name)) refl
+  where
+    by : (b : Bool) → is_some (place_of w.members name) ≡ b → (text : List ℕ) × (new : World) × Does w (lines.Member name kind) text new
+    by true e = (_, w, refused_if _ _ (Exists name) _ e (refl, refl))
+    by false e = (_, with_member w (fresh_member name kind), acts_unless _ (Exists name) _ e (refl, refl))
+line_prints w kept (lines.Change name path moment) = by (place_of w.members name) refl
+  where
+    by : (found : Option ℕ) → place_of w.members name ≡ found → (text : List ℕ) × (new : World) × Does w (lines.Change name path moment) text new
+    by None e = (_, w, refused_unless _ _ (Unknown name) _ (ap is_some e) (refl, refl))
+    by (Some k) e =
+        let (m, at) = found_at (λ m. bytes_eq m.name name) w.members k e in
+        let (vector, records, v, l) = kept.lists k m at in
+        change_prints w name path moment k m (held_at k m path records) (inserted (one_version (next_gvsn k m)) vector) (e, at) (found_held w.all m.known records (uid_at k m path) l)
+        (vector_more m.known vector (next_gvsn k m) v)
+line_prints w kept (lines.Show name) = by (place_of w.members name) refl
+  where
+    by : (found : Option ℕ) → place_of w.members name ≡ found → (text : List ℕ) × (new : World) × Does w (lines.Show name) text new
+    by None e = (_, w, refused_unless _ _ (Unknown name) _ (ap is_some e) (refl, refl))
+    by (Some k) e =
+        let (m, at) = found_at (λ m. bytes_eq m.name name) w.members k e in
+        let (vector, records, v, l) = kept.lists k m at in
+        (_, w, acts_if _ (Unknown name) _ (ap is_some e) (k, m, (e, at), (vector, records, v, l, refl), refl))
+
+-- each line prints something in every world that a run reaches
+pub every_line : (before : List Line) (said : List ℕ) (w : World) → Run fresh_world before said w → (line : Line) → (text : List ℕ) × (new : World) × Does w line text new
+every_line before said w run line = line_prints w (run_kept fresh_world before said w fresh_is_kept run) line
+
+lines_print : (w : World) → IsKept w → (more : List Line) → (text : List ℕ) × (new : World) × Run w more text new
+lines_print w kept [] = ([], w, (refl, refl))
+lines_print w kept (line ∷ more) =
+    let (first, mid, does) = line_prints w kept line in
+    let (rest, new, run) = lines_print mid (does_kept w line first mid kept does) more in
+    (first ++ rest, new, (first, mid, rest, does, run, refl))
+
+-- what some first lines print is the beginning of what all print
+pub run_goes_on : (before more : List Line) (said : List ℕ) (w : World) → Run fresh_world before said w
+    → (rest : List ℕ) × (new : World) × Run fresh_world (before ++ more) (said ++ rest) new
+run_goes_on before more said w run =
+    let (rest, new, further) = lines_print w (run_kept fresh_world before said w fresh_is_kept run) more in
+    (rest, new, run_then_run fresh_world before more said w rest new run further)
+
+-- ---- every line prints one thing
+
+one_vector : (set : Gvsn → Bool) (a b : List Interval) → IsVector set a → IsVector set b → a ≡ b
+one_vector set a b v v' = unique a b v.canonical v'.canonical (λ g. v.covering g ∙ sym (v'.covering g))
+
+one_held : (P : Update → Type 0) (uid : Uid) (a b : Option Update) → ((u v : Update) → P u → P v → u.gvsn ≡ v.gvsn → u ≡ v) → IsHeld P uid a → IsHeld P uid b → a ≡ b
+one_held P uid None None one h h' = refl
+one_held P uid None (Some v) one h h' = absurd (h v h'.0.among h'.1)
+one_held P uid (Some u) None one h h' = absurd (h' u h.0.among h.1)
+one_held P uid (Some u) (Some v) one h h' = ap Some (one_winner u v one h.0 h'.0 (h.1 ∙ sym h'.1))
+
+same_named : (w : World) (name : List ℕ) (k k' : ℕ) (m m' : Member) → IsNamed w name k m → IsNamed w name k' m' → (k ≡ k') × (m ≡ m')
+same_named w name k k' m m' named named' =
+    let place = named.0 in
+    let place' = named'.0 in
+    let at = named.1 in
+    let at' = named'.1 in
+    let same : k ≡ k' = cc in
+    (same, cc)
+
+one_show : (w : World) (m : Member) (a b : List ℕ) → Shows w m a → Shows w m b → a ≡ b
+one_show w m a b (vector, records, v, l, said) (vector', records', v', l', said') =
+    let same = one_vector m.known vector vector' v v' in
+    let alike = one_list (IsWinner (Covered w.all m.known)) records records' l l' in
+    said ∙ (λ i. printed (codes "vector" ∷ vector_words (names_of w) (same i)) ++ flat_map (λ u. printed (record_words (names_of w) u)) (alike i)) ∙ sym said'
+
+-- what a change of the k-th member does
+abbrev Changed : World → List ℕ → List ℕ → ℕ → List ℕ → World → ℕ → Member → Type 0
+Changed w name path moment text new k m = (held : Option Update) × IsHeld (Covered w.all m.known) (uid_at k m path) held
+    × Widens w (plus m.known (next_gvsn k m)) ((text ≡ printed (change_words name m.next)) × (new ≡ after_change w k m path (change_of k m path moment held))) text new
+
+one_change : (w : World) (name path : List ℕ) (moment : ℕ) (a b : List ℕ) (x y : World) (k : ℕ) (m : Member) → IsSound w → Changed w name path moment a x k m → Changed w name path moment b y k m → (a ≡ b) × (x ≡ y)
+one_change w name path moment a b x y k m sound (held, h, (vector, v, acts)) (held', h', (vector', v', acts')) =
+    let known = plus m.known (next_gvsn k m) in
+    let same = one_held (Covered w.all m.known) (uid_at k m path) held held' (λ u v p q. sound.one_each u v p.0 q.0) h h' in
+    let alike = one_vector known vector vector' v v' in
+    by (nat_le (length vector) 65536) acts (subst (λ l. Then (length l) b y held (nat_le (length l) 65536)) (sym alike) (subst (λ o. Then (length vector') b y o (nat_le (length vector') 65536)) (sym same) acts'))
+  where
+    Then : ℕ → List ℕ → World → Option Update → Bool → Type 0
+    Then count text new held t = MatchBool t ((text ≡ printed (change_words name m.next)) × (new ≡ after_change w k m path (change_of k m path moment held))) (IsRefused w (VectorFull count) text new)
+    by : (t : Bool) → Then (length vector) a x held t → Then (length vector) b y held t → (a ≡ b) × (x ≡ y)
+    by true (said, is) (said', is') = (said ∙ sym said', is ∙ sym is')
+    by false (said, is) (said', is') = (said ∙ sym said', is ∙ sym is')
+
+one_does : (w : World) (line : Line) (a b : List ℕ) (x y : World) → IsSound w → Does w line a x → Does w line b y → (a ≡ b) × (x ≡ y)
+one_does w (lines.Member name kind) a b x y sound does does' = by (is_some (place_of w.members name)) does does'
+  where
+    Then : List ℕ → World → Bool → Type 0
+    Then text new t = MatchOption (cond t (Some (Exists name)) None) (Acts w (lines.Member name kind) text new) (λ why. IsRefused w why text new)
+    by : (t : Bool) → Then a x t → Then b y t → (a ≡ b) × (x ≡ y)
+    by true (said, is) (said', is') = (said ∙ sym said', is ∙ sym is')
+    by false (said, is) (said', is') = (said ∙ sym said', is ∙ sym is')
+one_does w (lines.Change name path moment) a b x y sound does does' = by (is_some (place_of w.members name)) does does'
+  where
+    Then : List ℕ → World → Bool → Type 0
+    Then text new t = MatchOption (cond t None (Some (Unknown name))) (Acts w (lines.Change name path moment) text new) (λ why. IsRefused w why text new)
+    by : (t : Bool) → Then a x t → Then b y t → (a ≡ b) × (x ≡ y)
+    by true (k, m, held, named, h, wide) (k', m', held', named', h', wide') =
+        let (same, alike) = same_named w name k k' m m' named named' in
+        let moved = subst (λ n. Changed w name path moment b y k n) (sym alike) (subst (λ j. Changed w name path moment b y j m') (sym same) (held', h', wide')) in
+        one_change w name path moment a b x y k m sound (held, h, wide) moved
+    by false (said, is) (said', is') = (said ∙ sym said', is ∙ sym is')
+one_does w (lines.Show name) a b x y sound does does' = by (is_some (place_of w.members name)) does does'
+  where
+    Then : List ℕ → World → Bool → Type 0
+    Then text new t = MatchOption (cond t None (Some (Unknown name))) (Acts w (lines.Show name) text new) (λ why. IsRefused w why text new)
+    by : (t : Bool) → Then a x t → Then b y t → (a ≡ b) × (x ≡ y)
+    by true (k, m, named, shows, is) (k', m', named', shows', is') =
+        let (same, alike) = same_named w name k k' m m' named named' in
+        (one_show w m a b shows (subst (λ n. Shows w n b) (sym alike) shows'), is ∙ sym is')
+    by false (said, is) (said', is') = (said ∙ sym said', is ∙ sym is')
+
+one_run : (w : World) (ls : List Line) (a b : List ℕ) (x y : World) → IsKept w → Run w ls a x → Run w ls b y → (a ≡ b) × (x ≡ y)
+one_run w [] a b x y kept (said, is) (said', is') = (said ∙ sym said', is ∙ sym is')
+one_run w (line ∷ ls) a b x y kept (first, mid, rest, does, run, said) (first', mid', rest', does', run', said') =
+    let (head, same) = one_does w line first first' mid mid' kept.sound does does' in
+    let (tail, ends) = one_run mid ls rest rest' x y (does_kept w line first mid kept does) run (subst (λ v. Run v ls rest' y) (sym same) run') in
+    (said ∙ (λ i. head i ++ tail i) ∙ sym said', ends)
+
+-- a script has one text
+pub one_text : (bytes a b : List ℕ) → IsText bytes a → IsText bytes b → a ≡ b
+one_text bytes a b (ls, proper, (new, run)) (ls', proper', (new', run')) =
+    let same = one_script bytes ls ls' proper.script proper'.script in
+    (one_run fresh_world ls a b new new' fresh_is_kept run (subst (λ l. Run fresh_world l b new') (sym same) run')).0
