@@ -3,8 +3,12 @@ use Rattle.std.specs.Prelude.{string_bytes}
 use Rattle.std.proofs.lemmas.List.{take_more}
 use Rattle.std.proofs.lemmas.Result.{on_err_weaker, on_ok_weaker}
 use Rattle.frs_io.proofs.Outcomes.{OnErr-of_fact}
+use Rattle.dfsr.proofs.Bounds.{room_within}
 use Rattle.dfsr.proofs.Writing.{all_taken, front_is_some, next_line, pending_grows, piece_cut, piece_moved, some_of_all}
 use Rattle.dfsr.proofs.script.run_lines.Goals as goal
+
+pub run-requires-clause-room : goal.run-requires-clause-room
+run-requires-clause-room g c = room_within c.loop-line.line-index c.loop-line.engine (let few = c.well_formed in ?) c.loop-line.invariant.within
 
 pub returns-in_err-text-clause-err : goal.returns-in_err-text-clause-err
 returns-in_err-text-clause-err g c =
@@ -43,6 +47,7 @@ loop-line-preserved g c =
     let grown = pending_grows said front (string_bytes c.loop-line.pending) text (string_bytes c.push_str.new.self) split pushed in
     let (taken, takes_more, rest) = piece_moved _ _ _ (said ++ text) front _ _ takes grown c.in_ok-hand_on.ensures.moved in
     record {
+      within = c.in_ok-text.ensures.within i c.loop-line.invariant.within;
       later = omega (arith, c.in_ok-hand_on.ensures.cause.later);
       ran = (said ++ text, new, taken, next_line lines i line said w text new more run does, then_stands, takes_more, rest);
     }
