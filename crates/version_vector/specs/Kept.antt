@@ -1,4 +1,4 @@
--- What a vector keeps.
+-- Intervals in an optional vector.
 use Rattle.std.specs.Prelude.{List, [], Option, Some, None, Vec}
 use Rattle.std.specs.declared.alloc.Global.{Global}
 use Rattle.version_vector.specs.declared.interval.Interval.{Interval}

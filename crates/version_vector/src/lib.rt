@@ -1,7 +1,9 @@
-//! Version vectors: sets of versions, kept and sent as intervals (the FRS_VERSION_VECTOR of [MS-FRS2]).
+//! Version vectors: sets of versions, kept and sent as intervals (the FRS_VERSION_VECTOR of
+//! [MS-FRS2]).
 //!
 //! A [`Vector`] is a set of versions. A contract sees it as its intervals, sorted, none empty, none
-//! touching, and says of each call which versions the intervals then cover.
+//! touching, and says of each call which versions the intervals then cover. [`one_form`] is the law
+//! that one set has one such list.
 #![tactic(auto)]
 
 mod difference;

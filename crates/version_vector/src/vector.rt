@@ -82,7 +82,8 @@ impl Vector {
     /// Adds a version. After an error the set is as it was.
     pub fn add(&mut self, alloc: Global, g: Gvsn) -> Result<(), VectorError>
         requires { g.version < 2 ^ 64 - 1 }
-        ensures set { OnOk result ((h : Gvsn) → covers self.new h ≡ (same_gvsn g h || covers self.old h)) }
+        ensures set { OnOk result ((h : Gvsn) →
+            covers self.new h ≡ (same_gvsn g h || covers self.old h)) }
         ensures canonical { IsCanonical self.new }
         ensures within { OnOk result (length self.new ≤ 65_536) }
         ensures full { IfErr result (λ e. IsTooLong e (λ h. same_gvsn g h || covers self.old h)) }
@@ -93,10 +94,12 @@ impl Vector {
 
     /// Adds the versions of another set. After an error the set is as it was.
     pub fn merge(&mut self, alloc: Global, other: &Vector) -> Result<(), VectorError>
-        ensures set { OnOk result ((h : Gvsn) → covers self.new h ≡ (covers other.now h || covers self.old h)) }
+        ensures set { OnOk result ((h : Gvsn) →
+            covers self.new h ≡ (covers other.now h || covers self.old h)) }
         ensures canonical { IsCanonical self.new }
         ensures within { OnOk result (length self.new ≤ 65_536) }
-        ensures full { IfErr result (λ e. IsTooLong e (λ h. covers other.now h || covers self.old h)) }
+        ensures full { IfErr result (λ e.
+            IsTooLong e (λ h. covers other.now h || covers self.old h)) }
         ensures err { OnErr result (self.new ≡ self.old) }
     {
         let found = union(alloc, self.intervals(), other.intervals())?;
@@ -107,7 +110,8 @@ impl Vector {
 
     /// The versions of the set that another lacks, however many intervals they are.
     pub fn minus(&self, alloc: Global, other: &Vector) -> Result<Vector, AllocError>
-        ensures { IfOk result (λ found. (h : Gvsn) → covers found h ≡ (covers self.now h && not (covers other.now h))) }
+        ensures { IfOk result (λ found. (h : Gvsn) →
+            covers found h ≡ (covers self.now h && not (covers other.now h))) }
     {
         let found = difference(alloc, self.intervals(), other.intervals())?;
         Ok(Vector {

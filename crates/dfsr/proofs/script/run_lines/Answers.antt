@@ -8,7 +8,7 @@ use Rattle.dfsr.proofs.Writing.{all_taken, front_is_some, next_line, pending_gro
 use Rattle.dfsr.proofs.script.run_lines.Goals as goal
 
 pub run-requires-clause-room : goal.run-requires-clause-room
-run-requires-clause-room g c = room_within c.loop-line.line-index c.loop-line.engine (let few = c.well_formed in ?) c.loop-line.invariant.within
+run-requires-clause-room g c = room_within c.loop-line.line-index c.loop-line.engine (let few = c.well_formed.1.0.1 in omega (arith, few)) c.loop-line.invariant.within
 
 pub returns-in_err-text-clause-err : goal.returns-in_err-text-clause-err
 returns-in_err-text-clause-err g c =
