@@ -96,5 +96,6 @@ room_within n engine few a = All-weaker (IsSmall n) IsRoomy (λ m s. room_of m s
   where
     IsRoomy : Member → Type 0
     IsRoomy m = (m.next < 2 ^ 62) × All (λ r. r.clock < 2 ^ 62) m.records.items × IsRising m.records.items
+
     room_of : (m : Member) → IsSmall n m → IsRoomy m
     room_of m s = (let small = s.next in omega arith, All-weaker (IsEarly n) (λ r. r.clock < 2 ^ 62) (λ r early. omega arith) m.records.items s.clocks, s.rising)

@@ -96,8 +96,10 @@ change_prints w name path moment k m held vector named h v = by (nat_le (length 
   where
     Then : List ℕ → World → Bool → Type 0
     Then text new t = MatchBool t ((text ≡ printed (change_words name m.next)) × (new ≡ after_change w k m path (change_of k m path moment held))) (IsRefused w (VectorFull (length vector)) text new)
+
     does : (text : List ℕ) (new : World) → Then text new (nat_le (length vector) 65536) → (text : List ℕ) × (new : World) × Does w (lines.Change name path moment) text new
     does text new then = (text, new, acts_if _ (Unknown name) _ (ap is_some named.0) (k, m, held, named, h, (vector, v, then)))
+
     by : (b : Bool) → nat_le (length vector) 65536 ≡ b → (text : List ℕ) × (new : World) × Does w (lines.Change name path moment) text new
     by true e = does (printed (change_words name m.next)) (after_change w k m path (change_of k m path moment held)) (subst (Then _ _) (sym e) (refl, refl))
     by false e = does (printed (refusal_words (VectorFull (length vector)))) w (subst (Then _ _) (sym e) (refl, refl))
@@ -184,6 +186,7 @@ one_change w name path moment a b x y k m sound (held, h, (vector, v, acts)) (he
   where
     Then : ℕ → List ℕ → World → Option Update → Bool → Type 0
     Then count text new held t = MatchBool t ((text ≡ printed (change_words name m.next)) × (new ≡ after_change w k m path (change_of k m path moment held))) (IsRefused w (VectorFull count) text new)
+
     by : (t : Bool) → Then (length vector) a x held t → Then (length vector) b y held t → (a ≡ b) × (x ≡ y)
     by true (said, is) (said', is') = (said ∙ sym said', is ∙ sym is')
     by false (said, is) (said', is') = (said ∙ sym said', is ∙ sym is')
@@ -193,6 +196,7 @@ one_does w (lines.Member name kind) a b x y sound does does' = by (is_some (plac
   where
     Then : List ℕ → World → Bool → Type 0
     Then text new t = MatchOption (cond t (Some (Exists name)) None) (Acts w (lines.Member name kind) text new) (λ why. IsRefused w why text new)
+
     by : (t : Bool) → Then a x t → Then b y t → (a ≡ b) × (x ≡ y)
     by true (said, is) (said', is') = (said ∙ sym said', is ∙ sym is')
     by false (said, is) (said', is') = (said ∙ sym said', is ∙ sym is')
@@ -200,6 +204,7 @@ one_does w (lines.Change name path moment) a b x y sound does does' = by (is_som
   where
     Then : List ℕ → World → Bool → Type 0
     Then text new t = MatchOption (cond t None (Some (Unknown name))) (Acts w (lines.Change name path moment) text new) (λ why. IsRefused w why text new)
+
     by : (t : Bool) → Then a x t → Then b y t → (a ≡ b) × (x ≡ y)
     by true (k, m, held, named, h, wide) (k', m', held', named', h', wide') =
         let (same, alike) = same_named w name k k' m m' named named' in
@@ -210,6 +215,7 @@ one_does w (lines.Show name) a b x y sound does does' = by (is_some (place_of w.
   where
     Then : List ℕ → World → Bool → Type 0
     Then text new t = MatchOption (cond t None (Some (Unknown name))) (Acts w (lines.Show name) text new) (λ why. IsRefused w why text new)
+
     by : (t : Bool) → Then a x t → Then b y t → (a ≡ b) × (x ≡ y)
     by true (k, m, named, shows, is) (k', m', named', shows', is') =
         let (same, alike) = same_named w name k k' m m' named named' in

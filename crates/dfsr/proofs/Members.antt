@@ -114,9 +114,19 @@ show_known engine w name k h s held at =
     let place : place_of w.members name ≡ Some k = sym (place_same w.all _ w.members name s.members) ∙ held in
     let (m, is, stands) = zip_at (MemberStands w.all) engine.members.items w.members k h s.members at in
     let names = names_same w.all engine.members.items w.members s.members in
-    acts_if _ (Unknown name) _ (ap is_some place)
-    (k, m, (place, is), (h.vector, h.records.items, stands.vector, stands.records,
-        ap (λ n. printed (codes "vector" ∷ vector_words n h.vector) ++ flat_map (λ u. printed (record_words n u)) h.records.items) names), refl)
+    acts_if _ (Unknown name) _ (ap is_some place) (
+      k,
+      m,
+      (place, is),
+      (
+        h.vector,
+        h.records.items,
+        stands.vector,
+        stands.records,
+        ap (λ n. printed (codes "vector" ∷ vector_words n h.vector) ++ flat_map (λ u. printed (record_words n u)) h.records.items) names,
+      ),
+      refl,
+    )
 
 pub show_unknown : (engine : Engine) (w : World) (name : List ℕ) → Stands engine w → place_held engine.members.items name ≡ None
     → Does w (lines.Show name) (printed (refusal_words (Unknown name))) w
@@ -153,7 +163,7 @@ vector_grows k h m vector all s v = record {
 own_stands : (w : World) (k : ℕ) (h h' : Held) (m : Member) (path : List ℕ) (moment : ℕ) → IsSound w → slice_get w.members k ≡ Some m → MemberStands w.all h m
     → Changes h h' (database_of (k + 1)) path moment
     → MemberStands (w.all ++ change_of k m path moment (held_at k m path h.records.items) ∷ []) h'
-      (record m { files = m.files ++ new_file m.files m.next path; next = m.next + 1; known = plus m.known (next_gvsn k m) })
+    (record m { files = m.files ++ new_file m.files m.next path; next = m.next + 1; known = plus m.known (next_gvsn k m) })
 own_stands w k h h' m path moment sound at s c = record {
   name = ap string_bytes c.name ∙ s.name;
   kind = c.kind ∙ s.kind;
@@ -244,9 +254,14 @@ pub change_known : (engine : Engine) (w : World) (name path : List ℕ) (moment 
 change_known engine w name path moment k h h' m s held at stands c =
     let place : place_of w.members name ≡ Some k = sym (place_same w.all _ w.members name s.members) ∙ held in
     let found = held_at k m path h.records.items in
-    acts_if _ (Unknown name) _ (ap is_some place)
-    (k, m, found, (place, at), found_held w.all m.known h.records.items (uid_at k m path) stands.records,
-        widens_to w _ h'.vector _ _ _ (vector_grows k h m h'.vector w.all stands c.vector) c.within (ap (λ n. printed (change_words name n)) stands.next, refl))
+    acts_if _ (Unknown name) _ (ap is_some place) (
+      k,
+      m,
+      found,
+      (place, at),
+      found_held w.all m.known h.records.items (uid_at k m path) stands.records,
+      widens_to w _ h'.vector _ _ _ (vector_grows k h m h'.vector w.all stands c.vector) c.within (ap (λ n. printed (change_words name n)) stands.next, refl),
+    )
 
 pub change_too_wide : (engine : Engine) (w : World) (name path : List ℕ) (moment k count : ℕ) (h : Held) (m : Member) → Stands engine w → place_held engine.members.items name ≡ Some k
     → slice_get w.members k ≡ Some m → MemberStands w.all h m → IsTooLong (errors.VectorFull count) (plus (covers h.vector) (record { db = database_of (k + 1); version = h.next }))

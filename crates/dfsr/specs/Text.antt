@@ -75,7 +75,7 @@ Acts w (lines.Member name kind) text new = (text ≡ printed (codes "ok" ∷ [])
 Acts w (lines.Change name path moment) text new =
     (k : ℕ) × (m : Member) × (held : Option Update) × IsNamed w name k m × IsHeld (Covered w.all m.known) (uid_at k m path) held
     × Widens w (plus m.known (next_gvsn k m))
-      ((text ≡ printed (change_words name m.next)) × (new ≡ after_change w k m path (change_of k m path moment held))) text new
+    ((text ≡ printed (change_words name m.next)) × (new ≡ after_change w k m path (change_of k m path moment held))) text new
 Acts w (lines.Show name) text new = (k : ℕ) × (m : Member) × IsNamed w name k m × Shows w m text × (new ≡ w)
 
 -- a line prints its first refusal and changes nothing, or acts

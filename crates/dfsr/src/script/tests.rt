@@ -186,3 +186,5 @@ fn other_words(rt: HostRuntime) -> Result<(), Fail> {
     }
     Ok(())
 }
+
+mod changes;

@@ -27,7 +27,7 @@ returns-in-Ok c =
     let within : at ≤ length rs = omega (arith, prefix_len-le-length (λ r. uid_lt r.uid c.args.update.uid) rs, is) in
     c.in-Ok.ensures.items ∙ put_between c.args.update rs at c.args.update is within
     (λ more. elim c.else-at-len.branch as (λ _. same_uid (get_or rs at c.args.update).uid c.args.update.uid ≡ false) [
-        | else-at-len-via-then-at-len+else-eq w ↦
-            ap (λ r. same_uid r.uid c.args.update.uid) (sym (get_or_read rs at w.index.result.now more w.index.ensures c.args.update)) ∙ sym w.eq.ensures ∙ w.if-eq.false
-        | else-at-len-via-else-at-len w ↦ absurd (omega (arith, c.args.records.now.ok.0))
-      ])
+      | else-at-len-via-then-at-len+else-eq w ↦
+          ap (λ r. same_uid r.uid c.args.update.uid) (sym (get_or_read rs at w.index.result.now more w.index.ensures c.args.update)) ∙ sym w.eq.ensures ∙ w.if-eq.false
+      | else-at-len-via-else-at-len w ↦ absurd (omega (arith, c.args.records.now.ok.0))
+    ])

@@ -15,8 +15,8 @@ parts names u subject place s p =
     (λ i. s i ++ (32 ∷ (p i ++ 10 ∷ [])))
     ∙ sym (append_assoc (join_with_byte 32 (subject_words names u)) (32 ∷ join_with_byte 32 (place_words names u)) (10 ∷ []))
     ∙ ap (λ l. l ++ 10 ∷ [])
-      (sym (join_append (version_word names u.uid.db u.uid.version) (version_word names u.gvsn.db u.gvsn.version ∷ kind_word u ∷ state_word u ∷ [])
-        (parent_word names u.parent) (name_word u.name ∷ decimal u.fence ∷ decimal u.clock ∷ decimal u.created ∷ [])))
+    (sym (join_append (version_word names u.uid.db u.uid.version) (version_word names u.gvsn.db u.gvsn.version ∷ kind_word u ∷ state_word u ∷ [])
+    (parent_word names u.parent) (name_word u.name ∷ decimal u.fence ∷ decimal u.clock ∷ decimal u.created ∷ [])))
 
 pub returns : goal.returns
 returns c =

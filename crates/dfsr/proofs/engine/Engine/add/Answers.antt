@@ -30,6 +30,6 @@ returns-clause-ok c = λ w s.
     let fresh : IsFresh name c.args.kind c.in_ok-member.member = subst (λ n. IsFresh n c.args.kind c.in_ok-member.member) (c.text_of-text.ensures ∙ c.as_slice.ensures) c.in_ok-member.ensures in (
       new,
       subst (λ t. Does w (lines.Member name c.args.kind) t new) (sym c.in_ok-answer.ensures)
-      (add_new c.args.self.now w name c.args.kind s (ap is_some held ∙ sym c.is_some.ensures ∙ c.if-is_some.false)),
+          (add_new c.args.self.now w name c.args.kind s (ap is_some held ∙ sym c.is_some.ensures ∙ c.if-is_some.false)),
       add_stands c.args.self.now _ w c.in_ok-member.member name c.args.kind s fresh c.in_ok-push.ensures.items,
     )
