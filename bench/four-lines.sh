@@ -1,6 +1,7 @@
 #!/bin/sh
-# Times the built program on scripts of `show` lines: the largest that a script may be, half of it
-# and a quarter. Each time is the least of five runs, with the start of the process in it.
+# Times the built program on scripts of `show` lines and of `change` lines over 97 paths: the largest
+# that a script may be and smaller ones. Each time is the least of five runs, with the start of the
+# process in it.
 # Usage: bench/four-lines.sh, anywhere in the repository.
 set -eu
 top=$(cd "$(dirname "$0")/.." && pwd)
@@ -15,6 +16,12 @@ shows() {
     yes 'show a' | head -n "$1"
 }
 
+# one member, and this many `change` lines over 97 paths
+changes() {
+    echo 'member a primary'
+    seq 0 "$(($1 - 1))" | awk '{ print "change a f" $1 % 97 " " $1 }'
+}
+
 timed() {
     for _ in 1 2 3 4 5; do
         start=$(date +%s%N)
@@ -27,4 +34,9 @@ timed() {
 for lines in 37448 74897 149794; do
     shows $lines >"$work/script"
     echo "$(wc -c <"$work/script") bytes, $lines show lines: $(timed "$work/script") microseconds"
+done
+
+for lines in 5000 10000 20000 56076; do
+    changes $lines >"$work/script"
+    echo "$(wc -c <"$work/script") bytes, $lines change lines: $(timed "$work/script") microseconds"
 done

@@ -1,5 +1,5 @@
 -- The order of keys, and equality of versions and files.
-use Rattle.std.proofs.Common.{◌≡◌, ◌≢◌, ◌⊎◌, ℕ, Bool, true, false, ◌&&◌, ◌||◌, eqb, ltb, inl, inr, arith, subst, sym}
+use Rattle.std.proofs.Common.{◌≡◌, ◌≢◌, ◌⊎◌, ℕ, Bool, true, false, inl, inr, arith, subst, sym}
 use Rattle.std.proofs.lemmas.Bool.Decides.{nat_tests}
 use Rattle.frs_base.specs.Versions.{gvsn_lt, same_gvsn, same_uid, uid_lt}
 use Rattle.frs_base.specs.declared.version.Gvsn.{Gvsn}

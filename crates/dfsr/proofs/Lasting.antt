@@ -14,7 +14,7 @@ use Rattle.dfsr.specs.declared.line.Line.TheVariants as lines
 use Rattle.dfsr.specs.Answers.{IsText}
 use Rattle.dfsr.specs.Change.{change_of, next_gvsn, uid_at}
 use Rattle.dfsr.specs.Printed.{printed, record_words, vector_words}
-use Rattle.dfsr.specs.Records.{Covered, In, IsHeld, IsWinner, Lists, plus}
+use Rattle.dfsr.specs.Records.{Covered, IsHeld, IsWinner, Lists, plus}
 use Rattle.dfsr.specs.Standing.{IsSound}
 use Rattle.dfsr.specs.Text.{Acts, Does, Exists, IsRefused, IsVector, Run, Shows, Unknown, VectorFull, Widens, after_change, change_words, refusal_words}
 use Rattle.dfsr.specs.World.{IsNamed, Member, World, fresh_member, fresh_world, names_of, place_of, with_member}

@@ -1,16 +1,15 @@
 -- Versions that are made, and what is covered as the world grows.
-use Rattle.std.proofs.Common.{◌≡◌, ◌≢◌, ◌⊎◌, ◌<◌, ◌≤◌, ◌+◌, ◌||◌, inl, inr, ℕ, Bool, true, false, List, [], ◌∷◌, ◌++◌, set, refl, sym, ap, ◌∙◌, subst, Option, Some, None, MatchOption, arith}
+use Rattle.std.proofs.Common.{◌≡◌, ◌⊎◌, ◌<◌, ◌≤◌, ◌+◌, ◌||◌, inl, inr, ℕ, Bool, true, false, List, [], ◌∷◌, ◌++◌, set, refl, sym, ap, ◌∙◌, subst, Option, Some, MatchOption, arith}
 use Rattle.std.specs.Prelude.{slice_get}
 use Rattle.std.proofs.lemmas.Bool.{cases_eq}
 use Rattle.frs_base.specs.Identifiers.{database_of}
 use Rattle.frs_base.specs.Versions.{same_gvsn}
 use Rattle.frs_base.specs.declared.version.Gvsn.{Gvsn}
-use Rattle.frs_base.specs.declared.version.Uid.{Uid}
-use Rattle.win_order.specs.Order.{Beats, key_lt, key_of}
+use Rattle.win_order.specs.Order.{Beats}
 use Rattle.win_order.specs.declared.update.Update.{Update}
 use Rattle.dfsr.specs.Records.{Covered, In, IsHeld, IsWinner, Lists, plus}
 use Rattle.dfsr.specs.Standing.{IsMade, IsSound}
-use Rattle.dfsr.specs.World.{Member, World, fresh_member, with_member}
+use Rattle.dfsr.specs.World.{Member, World, with_member}
 use Rattle.dfsr.proofs.Keys.{same_gvsn_is, same_gvsn_refl}
 use Rattle.dfsr.proofs.Pairs.{get_push, get_push_cases, get_set_other, get_set_same}
 use Rattle.dfsr.proofs.Winning.{Grown, beats_all, in_new, in_old, in_push, wins_same}

@@ -1,6 +1,6 @@
 -- The members of an engine and those of the world that it stands for.
-use Rattle.std.proofs.Common.{◌≡◌, ◌≢◌, ◌<◌, ◌≤◌, ◌+◌, ℕ, zero, suc, Bool, true, false, List, [], ◌∷◌, ◌++◌, length, get_or, leb, map, set, refl, sym, ap, ◌∙◌, subst, Option, Some, None, MatchBool, bytes_eq, arith}
-use Rattle.std.specs.Prelude.{codes, decimal, find, flat_map, is_some, nat_le, position, slice_get, string_bytes}
+use Rattle.std.proofs.Common.{◌≡◌, ◌<◌, ◌≤◌, ◌+◌, ℕ, zero, suc, Bool, true, false, List, [], ◌∷◌, ◌++◌, length, get_or, map, set, refl, sym, ap, ◌∙◌, subst, Option, Some, None, MatchBool, bytes_eq, arith}
+use Rattle.std.specs.Prelude.{codes, find, flat_map, is_some, nat_le, position, slice_get, string_bytes}
 use Rattle.std.specs.List.{AllZip}
 use Rattle.std.proofs.lemmas.Bool.Decides.{nat_tests}
 use Rattle.std.proofs.lemmas.List.Quantifiers.{position-Some}
@@ -8,7 +8,7 @@ use Rattle.frs_base.specs.Identifiers.{database_of}
 use Rattle.frs_base.specs.Versions.{same_uid}
 use Rattle.frs_base.specs.declared.version.Gvsn.{Gvsn}
 use Rattle.frs_base.specs.declared.kind.MemberKind.{MemberKind}
-use Rattle.version_vector.specs.Limits.{HasIntervals, IsTooLong}
+use Rattle.version_vector.specs.Limits.{IsTooLong}
 use Rattle.version_vector.specs.Places.{one_version}
 use Rattle.version_vector.specs.Unions.{inserted}
 use Rattle.version_vector.specs.Versions.{IsCanonical, covers}
@@ -18,17 +18,16 @@ use Rattle.version_vector.proofs.Insertions.{adds_version, inserted_form}
 use Rattle.win_order.specs.declared.update.Update.{Update}
 use Rattle.dfsr.specs.declared.member.Member.{Member as Held}
 use Rattle.dfsr.specs.declared.engine.Engine.{Engine}
-use Rattle.dfsr.specs.declared.line.Line.{Line}
 use Rattle.dfsr.specs.declared.line.Line.TheVariants as lines
 use Rattle.dfsr.specs.Change.{base_of, born_of, change_of, file_update, name_of, new_file, next_gvsn, uid_at}
 use Rattle.dfsr.specs.Changes.{Changes, IsFresh, IsUnchanged, made_by}
 use Rattle.dfsr.specs.Names.{names_held}
 use Rattle.dfsr.specs.Printed.{printed, record_words, vector_words}
 use Rattle.dfsr.specs.Putting.{put_record}
-use Rattle.dfsr.specs.Records.{Covered, In, IsHeld, IsWinner, Lists, plus}
+use Rattle.dfsr.specs.Records.{Covered, IsWinner, Lists, plus}
 use Rattle.dfsr.specs.Standing.{IsSound, MemberStands, Stands}
-use Rattle.dfsr.specs.Text.{Acts, Does, Exists, IsRefused, IsVector, Unknown, VectorFull, Widens, after_change, change_words, refusal_words}
-use Rattle.dfsr.specs.World.{Member, World, fresh_member, names_of, place_of, with_member}
+use Rattle.dfsr.specs.Text.{Does, Exists, IsRefused, IsVector, Unknown, VectorFull, Widens, after_change, change_words, refusal_words}
+use Rattle.dfsr.specs.World.{Member, World, fresh_member, place_of, with_member}
 use Rattle.dfsr.proofs.Listing.{found_held}
 use Rattle.dfsr.proofs.Made.{sound_with_member}
 use Rattle.dfsr.proofs.Pairs.{indexed, zip_at, zip_map, zip_position, zip_push, zip_replace, zip_set}

@@ -1,10 +1,8 @@
 -- A member records an update of its own.
-use Rattle.std.proofs.Common.{◌≡◌, ◌<◌, ◌≤◌, ◌+◌, ◌&&◌, ◌||◌, inl, inr, ℕ, Bool, true, false, List, [], ◌∷◌, ◌++◌, eqb, ltb, max, set, refl, sym, ap, ◌∙◌, subst, Option, Some, None, MatchOption, arith}
-use Rattle.std.specs.Prelude.{find, slice_get}
+use Rattle.std.proofs.Common.{◌≡◌, ◌<◌, ◌≤◌, ◌+◌, ◌&&◌, ◌||◌, ℕ, Bool, true, List, [], ◌∷◌, ◌++◌, eqb, ltb, max, refl, sym, ap, ◌∙◌, Option, Some, None, MatchOption, arith}
+use Rattle.std.specs.Prelude.{slice_get}
 use Rattle.std.proofs.lemmas.Bool.Decides.{nat_tests}
 use Rattle.frs_base.specs.Identifiers.{database_of}
-use Rattle.frs_base.specs.Versions.{same_uid}
-use Rattle.frs_base.specs.declared.version.Uid.{Uid}
 use Rattle.win_order.specs.Order.{Beats, key_lt, key_of}
 use Rattle.win_order.specs.declared.update.Update.{Update}
 use Rattle.dfsr.specs.Change.{base_of, born_of, change_of, file_update, name_of, next_gvsn, uid_at}
@@ -13,7 +11,7 @@ use Rattle.dfsr.specs.Records.{Covered, In, IsHeld, IsWinner, Lists, plus}
 use Rattle.dfsr.specs.Standing.{IsSound}
 use Rattle.dfsr.specs.Text.{after_change}
 use Rattle.dfsr.specs.World.{Member, World}
-use Rattle.dfsr.proofs.Listing.{found_held, put_lists}
+use Rattle.dfsr.proofs.Listing.{put_lists}
 use Rattle.dfsr.proofs.Made.{beside_same, not_made, plus_cases, recording_grows, sound_after}
 
 -- the update of a change has a higher key than the record that it replaces

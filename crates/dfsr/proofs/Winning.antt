@@ -1,10 +1,8 @@
 -- Winners of a set of updates that grows.
 use Rattle.std.proofs.Common.{◌≡◌, ◌≢◌, ◌⊎◌, Bool, true, false, List, [], ◌∷◌, ◌++◌, refl, sym, ap, ◌∙◌, subst, inl, inr, Option, Some, None, MatchOption}
-use Rattle.frs_base.specs.declared.version.Gvsn.{Gvsn}
-use Rattle.frs_base.specs.declared.version.Uid.{Uid}
 use Rattle.win_order.specs.Order.{Beats, key_lt, key_of}
 use Rattle.win_order.specs.declared.update.Update.{Update}
-use Rattle.dfsr.specs.Records.{Covered, In, IsHeld, IsWinner}
+use Rattle.dfsr.specs.Records.{In, IsHeld, IsWinner}
 use Rattle.dfsr.proofs.Keys.{key_cut, key_irrefl, key_same, key_trans, not_below, uid_cases}
 
 -- Q is P and u, and u beats all of its file in P

@@ -1,5 +1,5 @@
 -- What a change of a member's own file records.
-use Rattle.std.specs.Prelude.{◌≡◌, ℕ, ◌+◌, max, Bool, true, false, List, [], ◌∷◌, ◌++◌, Option, Some, None, MatchOption, find, option_map, replicate, unwrap_or}
+use Rattle.std.specs.Prelude.{ℕ, ◌+◌, max, Bool, true, false, List, [], ◌∷◌, Option, find, option_map, replicate, unwrap_or}
 use Rattle.frs_base.specs.Identifiers.{content_set, database_of}
 use Rattle.frs_base.specs.Names.{matches}
 use Rattle.frs_base.specs.declared.kind.MemberKind.{MemberKind}

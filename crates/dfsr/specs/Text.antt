@@ -1,5 +1,5 @@
 -- The text of a script: what its lines do to the world, and what they print.
-use Rattle.std.specs.Prelude.{◌≡◌, ℕ, ◌+◌, Bool, true, List, [], ◌∷◌, ◌++◌, MatchBool, MatchOption, Option, Some, None, codes, decimal, flat_map, if◌then◌else◌, is_some, length, nat_le, slice_set}
+use Rattle.std.specs.Prelude.{◌≡◌, ℕ, ◌+◌, Bool, List, [], ◌∷◌, ◌++◌, MatchBool, MatchOption, Option, Some, None, codes, decimal, flat_map, if◌then◌else◌, is_some, length, nat_le, slice_set}
 use Rattle.version_vector.specs.Versions.{IsCanonical, covers}
 use Rattle.version_vector.specs.declared.interval.Interval.{Interval}
 use Rattle.frs_base.specs.declared.version.Gvsn.{Gvsn}

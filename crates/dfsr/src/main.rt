@@ -31,6 +31,8 @@ usage: dfsr script < SCRIPT
 Reads a script from standard input and writes what its lines print.
 Lines, of words parted by one space:
   member M primary|plain   makes a member; M has 1 to 8 letters a to z
+  change M P T             overwrites or makes the member's own file P, and records
+                           it; P has 1 to 255 characters, T is below 2^61
   show M                   prints what a member covers, and its records
 Empty lines and lines that begin with # print nothing.
 

@@ -1,4 +1,4 @@
-use Rattle.std.proofs.Common.{◌≡◌, ◌<◌, ◌∙◌, true, false, ap, sym, get_or, Some}
+use Rattle.std.proofs.Common.{◌≡◌, ◌∙◌, true, ap, sym, get_or, Some}
 use Rattle.std.proofs.lemmas.List.{get_or_read}
 use Rattle.frs_base.specs.Versions.{same_uid}
 use Rattle.dfsr.proofs.Places.{found_there, none_beyond, none_there}

@@ -1,4 +1,4 @@
-use Rattle.std.proofs.Common.{◌≡◌, ◌∙◌, ◌<◌, ◌^◌, ◌++◌, refl, ap, Bool, true, false, cond, List, [], ◌∷◌, sym, subst, Option, Some, None, All}
+use Rattle.std.proofs.Common.{◌≡◌, ◌∙◌, ◌<◌, ◌^◌, ◌++◌, refl, ap, Bool, true, false, cond, List, [], ◌∷◌, sym, subst, Some, All}
 use Rattle.std.specs.Prelude.{IfSome, find, option_to_list, ◌||◌}
 use Rattle.std.specs.Option.{option_copied}
 use Rattle.frs_base.specs.Versions.{same_gvsn, same_uid}
