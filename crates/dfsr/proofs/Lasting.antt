@@ -26,7 +26,7 @@ use Rattle.dfsr.proofs.Pairs.{get_push_cases, get_set_cases}
 use Rattle.dfsr.proofs.Recording.{change_sound, other_records, own_records}
 use Rattle.dfsr.proofs.Refusals.{acts_if, acts_unless, refused_if, refused_unless}
 use Rattle.dfsr.proofs.Runs.{run_then_run}
-use Rattle.dfsr.proofs.Winning.{one_winner}
+use Rattle.dfsr.proofs.Winning.{one_held}
 
 -- a vector covers what the member covers, and a list has its winners
 abbrev HasLists : List Update → Member → Type 0
@@ -150,12 +150,6 @@ run_goes_on before more said w run =
 
 one_vector : (set : Gvsn → Bool) (a b : List Interval) → IsVector set a → IsVector set b → a ≡ b
 one_vector set a b v v' = unique a b v.canonical v'.canonical (λ g. v.covering g ∙ sym (v'.covering g))
-
-one_held : (P : Update → Type 0) (uid : Uid) (a b : Option Update) → ((u v : Update) → P u → P v → u.gvsn ≡ v.gvsn → u ≡ v) → IsHeld P uid a → IsHeld P uid b → a ≡ b
-one_held P uid None None one h h' = refl
-one_held P uid None (Some v) one h h' = absurd (h v h'.0.among h'.1)
-one_held P uid (Some u) None one h h' = absurd (h' u h.0.among h.1)
-one_held P uid (Some u) (Some v) one h h' = ap Some (one_winner u v one h.0 h'.0 (h.1 ∙ sym h'.1))
 
 same_named : (w : World) (name : List ℕ) (k k' : ℕ) (m m' : Member) → IsNamed w name k m → IsNamed w name k' m' → (k ≡ k') × (m ≡ m')
 same_named w name k k' m m' named named' =

@@ -13,6 +13,7 @@ pub mod Made
 pub mod Recording
 pub mod Members
 pub mod Bounds
+pub mod Pulling
 pub mod Lasting
 pub mod Causes
 pub mod Writing

@@ -163,7 +163,7 @@ find_in (s ∷ rs) uid r e = by (same_uid s.uid uid) refl e (find_in rs uid r)
 -- ---- each file of what is covered has a winner
 
 -- the record of a file, or none, found among all that was recorded
-winner_of : (all : List Update) (known : Gvsn → Bool) (uid : Uid) → (held : Option Update) × IsHeld (Covered all known) uid held
+pub winner_of : (all : List Update) (known : Gvsn → Bool) (uid : Uid) → (held : Option Update) × IsHeld (Covered all known) uid held
 winner_of [] known uid = (None, λ v c s. c.0)
 winner_of (x ∷ xs) known uid = by (winner_of xs known uid) (known x.gvsn) refl (uid_cases x.uid uid)
   where

@@ -1,5 +1,5 @@
 -- Each line is read from its own words, and from no others.
-use Rattle.std.proofs.Common.{◌≡◌, ℕ, Bool, true, false, cond, not, eqb, List, [], ◌∷◌, Option, Some, None, Result, Ok, Err, IfOk, IsErrOf, refl, sym, ap, ◌∙◌, subst, arith, codes, All, bytes_eq}
+use Rattle.std.proofs.Common.{◌≡◌, ◌⊎◌, inl, inr, ℕ, Bool, true, false, cond, not, eqb, List, [], ◌∷◌, Option, Some, None, Result, Ok, Err, IfOk, IsErrOf, refl, sym, ap, ◌∙◌, subst, arith, codes, All, bytes_eq}
 use Rattle.std.specs.List.{AllByRecursion, join_with_byte, list_all, slice_split}
 use Rattle.std.proofs.lemmas.Bool.Decides.{nat_tests}
 use Rattle.std.proofs.lemmas.List.Elements.{All-from_get_or}
@@ -9,11 +9,11 @@ use Rattle.std.proofs.lemmas.Slice.Eq.{bytes_eq-Decides}
 use Rattle.frs_base.specs.declared.kind.MemberKind.{MemberKind}
 use Rattle.frs_base.specs.declared.kind.MemberKind.TheVariants.{Primary, Plain}
 use Rattle.dfsr.specs.declared.line.Line.{Line}
-use Rattle.dfsr.specs.declared.line.Line.TheVariants.{Change, Member, Show}
+use Rattle.dfsr.specs.declared.line.Line.TheVariants.{Change, Member, Pull, Show}
 use Rattle.dfsr.specs.declared.parse.ParseError.{ParseError}
 use Rattle.dfsr.specs.declared.parse.ParseError.TheVariants.{Bad, Memory}
 use Rattle.dfsr.specs.Grammar.{IsLine, is_member_name, is_path, is_path_byte, is_small_letter, kind_word, spelling, words}
-use Rattle.dfsr.specs.Reading.{Reads, change_at, kind_in, line_of, line_of_four, line_of_three, line_of_two, member_with, number_in}
+use Rattle.dfsr.specs.Reading.{Reads, change_at, kind_in, line_of, line_of_four, line_of_three, line_of_two, member_with, number_in, pull_from}
 use Rattle.dfsr.proofs.Numbers.{number_again, number_spelled, numerals}
 use Rattle.std.specs.Prelude.{decimal, ◌<◌, ◌^◌}
 use Rattle.std.proofs.lemmas.Fmt.{digits_decimal}
@@ -28,11 +28,17 @@ change_again true true name path None moment p q e = cc
 change_again true false name path found moment p q e = cc
 change_again false fits name path found moment p q e = cc
 
+pull_again : (valid fits : Bool) (name partner : List ℕ) → valid ≡ true → fits ≡ true → cond valid (cond fits (Some (Pull name partner)) None) None ≡ Some (Pull name partner)
+pull_again true true name partner p q = refl
+pull_again true false name partner p q = cc
+pull_again false fits name partner p q = cc
+
 pub again : (line : Line) → IsLine line → line_of (words line) ≡ Some line
 again (Member name Primary) valid = rw valid refl
 again (Member name Plain) valid = rw valid refl
 again (Change name path moment) valid =
     change_again (is_member_name name) (is_path path) name path (number_in (decimal moment)) moment valid.0 valid.1 (number_again moment valid.2)
+again (Pull name partner) valid = pull_again (is_member_name name) (is_member_name partner) name partner valid.0 valid.1
 again (Show name) valid = rw valid refl
 
 -- ---- words that give a line are its words
@@ -48,12 +54,15 @@ two_tests true false name line e = cc
 two_tests false is_show name line e = cc
 
 -- what the tests of three words say where they give a line
-three_tests : (valid is_member : Bool) (name : List ℕ) (found : Option MemberKind) (line : Line) → cond valid (cond is_member (member_with name found) None) None ≡ Some line
-    → (kind : MemberKind) × (valid ≡ true) × (is_member ≡ true) × (found ≡ Some kind) × (line ≡ Member name kind)
-three_tests true true name (Some kind) line e = (kind, refl, refl, refl, cc)
-three_tests true true name None line e = cc
-three_tests true false name found line e = cc
-three_tests false is_member name found line e = cc
+three_tests : (valid is_member is_pull fits : Bool) (name partner : List ℕ) (found : Option MemberKind) (line : Line)
+    → cond valid (cond is_member (member_with name found) (cond is_pull (cond fits (Some (Pull name partner)) None) None)) None ≡ Some line
+    → ((kind : MemberKind) × (valid ≡ true) × (is_member ≡ true) × (found ≡ Some kind) × (line ≡ Member name kind)) ⊎ ((valid ≡ true) × (is_pull ≡ true) × (fits ≡ true) × (line ≡ Pull name partner))
+three_tests true true is_pull fits name partner (Some kind) line e = inl (kind, refl, refl, refl, cc)
+three_tests true true is_pull fits name partner None line e = cc
+three_tests true false true true name partner found line e = inr (refl, refl, refl, cc)
+three_tests true false true false name partner found line e = cc
+three_tests true false false fits name partner found line e = cc
+three_tests false is_member is_pull fits name partner found line e = cc
 
 -- a word that gives a kind spells it
 kind_spelled : (word : List ℕ) (kind : MemberKind) → kind_in word ≡ Some kind → word ≡ kind_word kind
@@ -72,11 +81,21 @@ two_takes word name line e =
 
 three_takes : (word name third : List ℕ) (line : Line) → line_of_three word name third ≡ Some line → IsLine line × (word ∷ name ∷ third ∷ [] ≡ words line)
 three_takes word name third line e =
-    let (kind, valid, member, found, is) = three_tests (is_member_name name) (bytes_eq word (codes "member")) name (kind_in third) line e in
-    let first = same word (codes "member") member in
-    let last = kind_spelled third kind found in
-    let all : word ∷ name ∷ third ∷ [] ≡ words (Member name kind) = cc in
-    subst (λ l. IsLine l × (word ∷ name ∷ third ∷ [] ≡ words l)) (sym is) (valid, all)
+    by (three_tests (is_member_name name) (bytes_eq word (codes "member")) (bytes_eq word (codes "pull")) (is_member_name third) name third (kind_in third) line e)
+  where
+    Spells : Line → Type 0
+    Spells l = IsLine l × (word ∷ name ∷ third ∷ [] ≡ words l)
+    by : ((kind : MemberKind) × (is_member_name name ≡ true) × (bytes_eq word (codes "member") ≡ true) × (kind_in third ≡ Some kind) × (line ≡ Member name kind))
+        ⊎ ((is_member_name name ≡ true) × (bytes_eq word (codes "pull") ≡ true) × (is_member_name third ≡ true) × (line ≡ Pull name third)) → Spells line
+    by (inl (kind, valid, member, found, is)) =
+        let first = same word (codes "member") member in
+        let last = kind_spelled third kind found in
+        let all : word ∷ name ∷ third ∷ [] ≡ words (Member name kind) = cc in
+        subst Spells (sym is) (valid, all)
+    by (inr (valid, pulls, fits, is)) =
+        let first = same word (codes "pull") pulls in
+        let all : word ∷ name ∷ third ∷ [] ≡ words (Pull name third) = cc in
+        subst Spells (sym is) ((valid, fits), all)
 
 -- what the tests of four words say where they give a line
 four_tests : (valid is_change fits : Bool) (name path : List ℕ) (found : Option ℕ) (line : Line)
@@ -138,6 +157,7 @@ parted (Member name Primary) valid = split_join (codes "member") _ (literal (cod
 parted (Member name Plain) valid = split_join (codes "member") _ (literal (codes "member") refl) (letters name valid, (literal (codes "plain") refl, tt))
 parted (Change name path moment) valid =
     split_join (codes "change") _ (literal (codes "change") refl) (letters name valid.0, (path_bytes path valid.1, (digits moment valid.2, tt)))
+parted (Pull name partner) valid = split_join (codes "pull") _ (literal (codes "pull") refl) (letters name valid.0, (letters partner valid.1, tt))
 parted (Show name) valid = split_join (codes "show") _ (literal (codes "show") refl) (letters name valid, tt)
 
 -- ---- rows

@@ -1,5 +1,6 @@
 -- Winners of a set of updates that grows.
 use Rattle.std.proofs.Common.{◌≡◌, ◌≢◌, ◌⊎◌, Bool, true, false, List, [], ◌∷◌, ◌++◌, refl, sym, ap, ◌∙◌, subst, inl, inr, Option, Some, None, MatchOption}
+use Rattle.frs_base.specs.declared.version.Uid.{Uid}
 use Rattle.win_order.specs.Order.{Beats, key_lt, key_of}
 use Rattle.win_order.specs.declared.update.Update.{Update}
 use Rattle.dfsr.specs.Records.{In, IsHeld, IsWinner}
@@ -42,6 +43,13 @@ wins_same x to back h = record { among = to x h.among; unbeaten = λ v q b. h.un
 pub one_winner : {P : Update → Type 0} (u v : Update) → ((a b : Update) → P a → P b → a.gvsn ≡ b.gvsn → a ≡ b) → IsWinner P u → IsWinner P v → u.uid ≡ v.uid → u ≡ v
 one_winner u v one h k file =
     one u v h.among k.among (key_same (key_of u) (key_of v) (not_below u v file (h.unbeaten v k.among)) (not_below v u (sym file) (k.unbeaten u h.among)))
+
+-- a file has one winner, or none
+pub one_held : (P : Update → Type 0) (uid : Uid) (a b : Option Update) → ((u v : Update) → P u → P v → u.gvsn ≡ v.gvsn → u ≡ v) → IsHeld P uid a → IsHeld P uid b → a ≡ b
+one_held P uid None None one h h' = refl
+one_held P uid None (Some v) one h h' = absurd (h v h'.0.among h'.1)
+one_held P uid (Some u) None one h h' = absurd (h' u h.0.among h.1)
+one_held P uid (Some u) (Some v) one h h' = ap Some (one_winner u v one h.0 h'.0 (h.1 ∙ sym h'.1))
 
 -- what beats the winner of its file beats all of its file
 pub beats_all : (P : Update → Type 0) (u : Update) (held : Option Update) → IsHeld P u.uid held → MatchOption held (Unit {0}) (λ r. Beats u r)

@@ -3,7 +3,7 @@ use Rattle.std.specs.Prelude.{◌⊎◌, ◌<◌, ◌≤◌, ℕ, Bool, true, fa
 use Rattle.std.specs.declared.option.Option.{Option}
 use Rattle.frs_io.specs.Told.{Takes, TakesSome}
 use Rattle.dfsr.specs.declared.line.Line.{Line}
-use Rattle.dfsr.specs.declared.line.Line.TheVariants.{Change, Member, Show}
+use Rattle.dfsr.specs.declared.line.Line.TheVariants.{Change, Member, Pull, Show}
 use Rattle.dfsr.specs.Grammar.{HasBadRow, IsScript}
 use Rattle.dfsr.specs.Text.{Prints}
 
@@ -11,6 +11,7 @@ use Rattle.dfsr.specs.Text.{Prints}
 abbrev pub makes_member : Line → Bool
 makes_member (Member name kind) = true
 makes_member (Change name path moment) = false
+makes_member (Pull name partner) = false
 makes_member (Show name) = false
 
 -- a script of these lines, within 1,048,576 bytes and 8 `member` lines

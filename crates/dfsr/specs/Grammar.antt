@@ -4,7 +4,7 @@ use Rattle.std.specs.List.{join_with_byte, list_all, slice_split}
 use Rattle.frs_base.specs.declared.kind.MemberKind.{MemberKind}
 use Rattle.frs_base.specs.declared.kind.MemberKind.TheVariants.{Primary, Plain}
 use Rattle.dfsr.specs.declared.line.Line.{Line}
-use Rattle.dfsr.specs.declared.line.Line.TheVariants.{Change, Member, Show}
+use Rattle.dfsr.specs.declared.line.Line.TheVariants.{Change, Member, Pull, Show}
 
 -- ---- lines
 
@@ -33,6 +33,7 @@ kind_word Plain = codes "plain"
 abbrev pub words : Line → List (List ℕ)
 words (Member name kind) = codes "member" ∷ name ∷ kind_word kind ∷ []
 words (Change name path moment) = codes "change" ∷ name ∷ path ∷ decimal moment ∷ []
+words (Pull name partner) = codes "pull" ∷ name ∷ partner ∷ []
 words (Show name) = codes "show" ∷ name ∷ []
 
 -- what a line spells: its words, parted by one space
@@ -43,6 +44,7 @@ spelling line = join_with_byte 32 (words line)
 abbrev pub IsLine : Line → Type 0
 IsLine (Member name kind) = is_member_name name ≡ true
 IsLine (Change name path moment) = (is_member_name name ≡ true) × (is_path path ≡ true) × (moment < 2 ^ 61)
+IsLine (Pull name partner) = (is_member_name name ≡ true) × (is_member_name partner ≡ true)
 IsLine (Show name) = is_member_name name ≡ true
 
 -- ---- scripts

@@ -4,6 +4,7 @@ pub mod World
 pub mod Printed
 pub mod Change
 pub mod Changes
+pub mod Pulls
 pub mod Putting
 pub mod Text
 pub mod Answers

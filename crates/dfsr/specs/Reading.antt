@@ -4,7 +4,7 @@ use Rattle.std.specs.Str.Parse.{digits_value}
 use Rattle.frs_base.specs.declared.kind.MemberKind.{MemberKind}
 use Rattle.frs_base.specs.declared.kind.MemberKind.TheVariants.{Primary, Plain}
 use Rattle.dfsr.specs.declared.line.Line.{Line}
-use Rattle.dfsr.specs.declared.line.Line.TheVariants.{Change, Member, Show}
+use Rattle.dfsr.specs.declared.line.Line.TheVariants.{Change, Member, Pull, Show}
 use Rattle.dfsr.specs.declared.parse.ParseError.{ParseError}
 use Rattle.dfsr.specs.declared.parse.ParseError.TheVariants.{Bad, Memory}
 use Rattle.dfsr.specs.Grammar.{is_member_name, is_path}
@@ -22,9 +22,13 @@ abbrev pub member_with : List ℕ → Option MemberKind → Option Line
 member_with name None = None
 member_with name (Some kind) = Some (Member name kind)
 
+-- a `pull` line, where the partner's name is one
+abbrev pub pull_from : List ℕ → List ℕ → Option Line
+pull_from name partner = if is_member_name partner then Some (Pull name partner) else None
+
 -- a line of three words
 abbrev pub line_of_three : List ℕ → List ℕ → List ℕ → Option Line
-line_of_three word name third = if is_member_name name then (if bytes_eq word (codes "member") then member_with name (kind_in third) else None) else None
+line_of_three word name third = if is_member_name name then (if bytes_eq word (codes "member") then member_with name (kind_in third) else (if bytes_eq word (codes "pull") then pull_from name third else None)) else None
 
 -- the number below 2^61 that a word spells, in decimal without sign and leading zeros
 abbrev pub number_in : List ℕ → Option ℕ

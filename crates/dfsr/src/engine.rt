@@ -3,7 +3,7 @@ ghost use Rattle.std.specs.Prelude.{◌≡◌, ◌<◌, ◌∷◌, ◌++◌, [],
 ghost use Rattle.dfsr.specs.Changes.{IsFresh};
 ghost use Rattle.dfsr.specs.Printed.{printed, record_words, vector_words};
 ghost use Rattle.dfsr.specs.Names.{names_held};
-ghost use Rattle.dfsr.specs.Text.{Exists, Unknown, VectorFull, change_words, refusal_words};
+ghost use Rattle.dfsr.specs.Text.{Exists, Itself, Unknown, VectorFull, change_words, pull_words, refusal_words};
 ghost use Rattle.version_vector.specs.Versions.{IsCanonical};
 
 use crate::line::Line;
@@ -46,6 +46,12 @@ fn refused_vector_full(alloc: Global, count: u64) -> Result<String, AllocError>
     format!(in alloc; "refused 20 vectorfull {count}\n")
 }
 
+fn refused_self(alloc: Global) -> Result<String, AllocError>
+    ensures { IfOk result (λ text. string_bytes text ≡ printed (refusal_words Itself)) }
+{
+    String::from_str(alloc, "refused 18 self\n")
+}
+
 fn ok_text(alloc: Global) -> Result<String, AllocError>
     ensures { IfOk result (λ text. string_bytes text ≡ printed (codes "ok" ∷ [])) }
 {
@@ -56,6 +62,12 @@ fn change_text(alloc: Global, name: &str, version: u64) -> Result<String, AllocE
     ensures { IfOk result (λ text. string_bytes text ≡ printed (change_words name.now version)) }
 {
     format!(in alloc; "update {name}:{version}\n")
+}
+
+fn pull_text(alloc: Global, count: usize) -> Result<String, AllocError>
+    ensures { IfOk result (λ text. string_bytes text ≡ printed (pull_words count)) }
+{
+    format!(in alloc; "pulled {count}\n")
 }
 
 /// What `show` prints of a member: its vector, and its records.
@@ -162,6 +174,35 @@ impl Engine {
         }
     }
 
+    fn pull(
+        &mut self,
+        alloc: Global,
+        name: &Bytes,
+        partner: &Bytes,
+    ) -> Result<String, AllocError>
+        requires line { IsLine (Line.Pull name.now partner.now) }
+        requires room { HasRoom self.old }
+        ensures ok { (w : World) → Stands self.old w → IfOk result (λ text. (new : World) × Does w (Line.Pull name.now partner.now) (string_bytes text) new × Stands self.new new) }
+        ensures within { (n : ℕ) → IsWithin n self.old → OnOk result (IsWithin (n + 1) self.new) }
+    {
+        let Some(at) = place_of(&self.members, name.as_slice()) else {
+            return refused_unknown(alloc, text_of(name.as_slice()));
+        };
+        let Some(from) = place_of(&self.members, partner.as_slice()) else {
+            return refused_unknown(alloc, text_of(partner.as_slice()));
+        };
+        if name.as_slice() == partner.as_slice() {
+            return refused_self(alloc);
+        }
+        let taken = self.members[at].taken_from(alloc, &self.members[from])?;
+        let answer = pull_text(alloc, taken.updates.len())?;
+        match self.members[at].take(alloc, taken) {
+            Ok(()) => Ok(answer),
+            Err(VectorError::VectorFull { count }) => refused_vector_full(alloc, count),
+            Err(VectorError::Memory) => Err(AllocError),
+        }
+    }
+
     /// Does a line, and gives what it prints.
     pub fn run(&mut self, alloc: Global, line: &Line) -> Result<String, AllocError>
         requires line { IsLine line.now }
@@ -172,6 +213,7 @@ impl Engine {
         match line {
             Line::Member { name, kind } => self.add(alloc, name, *kind),
             Line::Change { name, path, moment } => self.change(alloc, name, path, *moment),
+            Line::Pull { name, partner } => self.pull(alloc, name, partner),
             Line::Show { name } => self.show(alloc, name),
         }
     }

@@ -21,6 +21,13 @@ pub enum Line {
         /// The moment of the change, below 2^61.
         moment: u64,
     },
+    /// `pull M N`: takes from another member all that it covers, and what wins of it.
+    Pull {
+        /// The name of the member that pulls.
+        name: Bytes,
+        /// The name of the member that it pulls from.
+        partner: Bytes,
+    },
     /// `show M`: prints what a member covers, and its records.
     Show {
         /// The member's name.

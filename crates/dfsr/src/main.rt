@@ -9,6 +9,7 @@ pub mod laws;
 pub mod line;
 pub mod member;
 pub mod parse;
+pub mod pull;
 pub mod records;
 pub mod script;
 pub mod status;
@@ -33,6 +34,7 @@ Lines, of words parted by one space:
   member M primary|plain   makes a member; M has 1 to 8 letters a to z
   change M P T             overwrites or makes the member's own file P, and records
                            it; P has 1 to 255 characters, T is below 2^61
+  pull M N                 M takes what N covers, and what wins of it
   show M                   prints what a member covers, and its records
 Empty lines and lines that begin with # print nothing.
 

@@ -2,7 +2,7 @@
 ghost use Rattle.std.specs.Prelude.{◌==◌, ◌≡◌, ◌≢◌, true, IfErr, IfOk, IsErrOf, map};
 ghost use Rattle.std.specs.List.{list_all, slice_split};
 ghost use Rattle.dfsr.specs.Grammar.{HasBadRow, IsLine, IsScript, is_member_name, is_path, is_path_byte, is_small_letter, rows, says_something, spelling};
-ghost use Rattle.dfsr.specs.Reading.{Reads, kind_in, line_of, line_of_four, line_of_three, line_of_two, number_in};
+ghost use Rattle.dfsr.specs.Reading.{Reads, kind_in, line_of, line_of_four, line_of_three, line_of_two, member_with, number_in, pull_from};
 ghost use Rattle.dfsr.specs.declared.line.Line.{Line};
 ghost use Rattle.dfsr.specs.declared.parse.ParseError.TheVariants.{Memory};
 
@@ -167,21 +167,42 @@ fn line_of_two(alloc: Global, word: &str, name: &str) -> Result<Line, ParseError
     }
 }
 
+fn member_line(alloc: Global, name: &str, kind: &str) -> Result<Line, ParseError>
+    ensures { Reads result (member_with name.now (kind_in kind.now)) }
+{
+    match kind_in(kind) {
+        Some(kind) => Ok(Line::Member {
+            name: owned(alloc, name)?,
+            kind,
+        }),
+        None => Err(ParseError::Bad),
+    }
+}
+
+fn pull_line(alloc: Global, name: &str, partner: &str) -> Result<Line, ParseError>
+    ensures { Reads result (pull_from name.now partner.now) }
+{
+    if !is_member_name(partner) {
+        return Err(ParseError::Bad);
+    }
+    Ok(Line::Pull {
+        name: owned(alloc, name)?,
+        partner: owned(alloc, partner)?,
+    })
+}
+
 fn line_of_three(alloc: Global, word: &str, name: &str, third: &str) -> Result<Line, ParseError>
     ensures { Reads result (line_of_three word.now name.now third.now) }
 {
     if !is_member_name(name) {
         return Err(ParseError::Bad);
     }
-    if word != "member" {
-        return Err(ParseError::Bad);
-    }
-    match kind_in(third) {
-        Some(kind) => Ok(Line::Member {
-            name: owned(alloc, name)?,
-            kind,
-        }),
-        None => Err(ParseError::Bad),
+    if word == "member" {
+        member_line(alloc, name, third)
+    } else if word == "pull" {
+        pull_line(alloc, name, third)
+    } else {
+        Err(ParseError::Bad)
     }
 }
 

@@ -1,5 +1,5 @@
 // The updates that a member holds, in order of their files.
-ghost use Rattle.std.specs.Prelude.{◌≡◌, ◌<◌, OnOk, OnErr, find, vec_capacity, vec_len};
+ghost use Rattle.std.specs.Prelude.{◌≡◌, ◌<◌, ◌≤◌, OnOk, OnErr, find, vec_capacity, vec_len};
 ghost use Rattle.std.specs.List.{prefix_len};
 ghost use Rattle.std.specs.Option.{option_copied};
 ghost use Rattle.frs_base.specs.Versions.{same_uid, uid_lt};
@@ -35,7 +35,8 @@ pub fn held(records: &[Update], uid: Uid) -> Option<&Update>
 pub fn put_record(records: &mut Vec<Update>, update: Update)
     requires rising { IsRising records.old.items }
     requires room { vec_len records.old < vec_capacity records.old }
-    ensures { records.new.items ≡ put_record update records.old.items }
+    ensures items { records.new.items ≡ put_record update records.old.items }
+    ensures capacity { vec_capacity records.old ≤ vec_capacity records.new }
 {
     let at = place_of(records, update.uid);
     if at < records.len() && records[at].uid == update.uid {

@@ -44,7 +44,7 @@ returns-clause-ok c =
       finished = refl;
       files = c.add_file.ensures ∙ (λ i. c.in_ok-reserve.ensures.items i ++ file i);
       next = refl;
-      records = c.put_record.ensures ∙ (λ i. put_record (update i) (c.in_ok-reserve-2.ensures.items i));
+      records = c.put_record.ensures.items ∙ (λ i. put_record (update i) (c.in_ok-reserve-2.ensures.items i));
       vector = record { canonical = c.in_ok-add.ensures.canonical; covering = λ g. c.in_ok-add.ensures.set g ∙ ap (λ u. same_gvsn u.gvsn g || covers c.args.self.now.vector g) update };
       within = c.in_ok-add.ensures.within;
     }
