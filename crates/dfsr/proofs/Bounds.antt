@@ -7,12 +7,14 @@ use Rattle.frs_base.specs.declared.kind.MemberKind.{MemberKind}
 use Rattle.win_order.specs.declared.update.Update.{Update}
 use Rattle.dfsr.specs.Change.{clock_of}
 use Rattle.dfsr.specs.Changes.{Changes, IsFresh, IsUnchanged, made_by}
-use Rattle.dfsr.specs.Putting.{put_record}
+use Rattle.dfsr.specs.Pulls.{Takes, adopted}
+use Rattle.dfsr.specs.Putting.{put_all as put_updates, put_record}
 use Rattle.dfsr.specs.Records.{IsRising}
 use Rattle.dfsr.specs.Standing.{HasRoom, IsSmall, IsWithin}
 use Rattle.dfsr.specs.declared.engine.Engine.{Engine}
 use Rattle.dfsr.specs.declared.member.Member.{Member}
 use Rattle.dfsr.proofs.Listing.{put_all, put_rising}
+use Rattle.dfsr.proofs.Pulling.{adopted_all, put_all_all, put_all_rising}
 
 -- a clock below 2^61 and so many lines
 abbrev IsEarly : ℕ → Update → Type 0
@@ -90,6 +92,23 @@ within_changed n members k old new db path moment a at low c = within_set n memb
 
 pub within_unchanged : (n : ℕ) (members : List Member) (k : ℕ) (old new : Member) → All (IsSmall n) members → slice_get members k ≡ Some old → IsUnchanged old new → All (IsSmall (n + 1)) (set members k new)
 within_unchanged n members k old new a at c = within_set n members _ k new a (small_later n new (small_unchanged n old new c (small_at n members k old a at))) refl
+
+small_taken : (n : ℕ) (old new partner : Member) → IsSmall n old → IsSmall n partner → Takes old new (adopted old.vector old.records.items partner.records.items) partner.vector → IsSmall (n + 1) new
+small_taken n old new partner s t c =
+    let us = adopted old.vector old.records.items partner.records.items in
+    let later = recursion_from_All (IsEarly (n + 1)) old.records.items (early_later n old.records.items s.clocks) in
+    let theirs = recursion_from_All (IsEarly (n + 1)) partner.records.items (early_later n partner.records.items t.clocks) in
+    record {
+      next = let same = c.next in let small = s.next in omega arith;
+      clocks = subst (All (IsEarly (n + 1))) (sym c.records) (All-from_recursion (IsEarly (n + 1)) (put_updates us old.records.items)
+          (put_all_all (IsEarly (n + 1)) us old.records.items (adopted_all (IsEarly (n + 1)) old.vector old.records.items partner.records.items theirs) later));
+      rising = subst IsRising (sym c.records) (put_all_rising us old.records.items s.rising);
+    }
+
+pub within_taken : (n : ℕ) (members : List Member) (k j : ℕ) (old new partner : Member) → All (IsSmall n) members → slice_get members k ≡ Some old → slice_get members j ≡ Some partner
+    → Takes old new (adopted old.vector old.records.items partner.records.items) partner.vector → All (IsSmall (n + 1)) (set members k new)
+within_taken n members k j old new partner a at from c =
+    within_set n members _ k new a (small_taken n old new partner (small_at n members k old a at) (small_at n members j partner a from) c) refl
 
 pub room_within : (n : ℕ) (engine : Engine) → n < 2 ^ 61 → IsWithin n engine → HasRoom engine
 room_within n engine few a = All-weaker (IsSmall n) IsRoomy (λ m s. room_of m s) engine.members.items a

@@ -14,17 +14,20 @@ use Rattle.dfsr.specs.declared.line.Line.TheVariants as lines
 use Rattle.dfsr.specs.Answers.{IsText}
 use Rattle.dfsr.specs.Change.{change_of, next_gvsn, uid_at}
 use Rattle.dfsr.specs.Printed.{printed, record_words, vector_words}
-use Rattle.dfsr.specs.Records.{Covered, IsHeld, IsWinner, Lists, plus}
+use Rattle.dfsr.specs.Pulls.{adopted}
+use Rattle.dfsr.specs.Putting.{put_all}
+use Rattle.dfsr.specs.Records.{Covered, In, IsAdopted, IsHeld, IsWinner, Lists, both, plus}
 use Rattle.dfsr.specs.Standing.{IsSound}
-use Rattle.dfsr.specs.Text.{Acts, Does, Exists, IsRefused, IsVector, Run, Shows, Unknown, VectorFull, Widens, after_change, change_words, refusal_words}
+use Rattle.dfsr.specs.Text.{Acts, Does, Exists, IsRefused, IsVector, Itself, Run, Shows, Unknown, VectorFull, Widens, after_change, after_pull, change_words, pull_words, refusal_words}
 use Rattle.dfsr.specs.World.{IsNamed, Member, World, fresh_member, fresh_world, names_of, place_of, with_member}
 use Rattle.dfsr.proofs.Causes.{one_script}
 use Rattle.dfsr.proofs.Listing.{found_held, one_list}
-use Rattle.dfsr.proofs.Made.{sound_with_member}
+use Rattle.dfsr.proofs.Made.{pulled_sound, sound_with_member}
 use Rattle.dfsr.proofs.Members.{covers_nothing, found_at, held_at, vector_more}
 use Rattle.dfsr.proofs.Pairs.{get_push_cases, get_set_cases}
+use Rattle.dfsr.proofs.Pulling.{adopted_lists, pulled_lists, united, vector_of_both}
 use Rattle.dfsr.proofs.Recording.{change_sound, other_records, own_records}
-use Rattle.dfsr.proofs.Refusals.{acts_if, acts_unless, refused_if, refused_unless}
+use Rattle.dfsr.proofs.Refusals.{acts_if, acts_of_three, acts_unless, first_of_three, refused_if, refused_unless, second_of_three, third_of_three}
 use Rattle.dfsr.proofs.Runs.{run_then_run}
 use Rattle.dfsr.proofs.Winning.{one_held}
 
@@ -60,6 +63,23 @@ kept_after_change w k m path moment held kept at h =
           (λ other old. let (vector, records, v, l) = kept.lists j n old in (vector, records, v, other_records w k m j n u records kept.sound at old refl l));
     }
 
+-- the vector and the records that a member has once it took from another
+both_lists : (all : List Update) (m n : Member) → ((u v : Update) → In u all → In v all → u.gvsn ≡ v.gvsn → u ≡ v) → HasLists all m → HasLists all n
+    → (vector : List Interval) × (us : List Update) × (records : List Update) × IsVector (both m.known n.known) vector × Lists (IsAdopted all m.known n.known) us
+    × Lists (IsWinner (Covered all (both m.known n.known))) records
+both_lists all m n one (vector, records, v, l) (other, others, w, o) =
+    let a = adopted_lists all m.known n.known vector records others one v.covering l o in
+    (united other vector, adopted vector records others, put_all (adopted vector records others) records, vector_of_both m.known n.known vector other v w, a,
+        pulled_lists all m.known n.known (adopted vector records others) records a l)
+
+kept_after_pull : (w : World) (k : ℕ) (m : Member) (j : ℕ) (n : Member) → IsKept w → slice_get w.members k ≡ Some m → slice_get w.members j ≡ Some n → IsKept (after_pull w k m n)
+kept_after_pull w k m j n kept at from =
+    let (vector, us, records, v, a, l) = both_lists w.all m n kept.sound.one_each (kept.lists k m at) (kept.lists j n from) in
+    record {
+      sound = pulled_sound w k m j n kept.sound at from;
+      lists = λ i x at'. get_set_cases (HasLists w.all) w.members k i m _ x at at' (vector, records, v, l) (λ other old. kept.lists i x old);
+    }
+
 -- what holds of the old world and of the widened one holds of the new one
 widened : (A : Type 0) (P : World → Type 0) (w : World) (count : ℕ) (text : List ℕ) (new : World) (b : Bool) → P w → (A → P new) → MatchBool b A (IsRefused w (VectorFull count) text new) → P new
 widened A P w count text new true old f acts = f acts
@@ -77,6 +97,14 @@ does_kept w (lines.Change name path moment) text new kept does = by (is_some (pl
     by true (k, m, held, named, h, (vector, v, acts)) =
         widened _ IsKept w (length vector) text new (nat_le (length vector) 65536) kept (λ a. subst IsKept (sym a.1) (kept_after_change w k m path moment held kept named.1 h)) acts
     by false (said, same) = subst IsKept (sym same) kept
+does_kept w (lines.Pull name partner) text new kept does = by (is_some (place_of w.members name)) (is_some (place_of w.members partner)) (bytes_eq name partner) does
+  where
+    by : (a b c : Bool) → MatchOption (cond a (cond b (cond c (Some Itself) None) (Some (Unknown partner))) (Some (Unknown name))) (Acts w (lines.Pull name partner) text new) (λ why. IsRefused w why text new) → IsKept new
+    by true true false (k, m, j, n, adopted, named, other, a, (vector, v, acts)) =
+        widened _ IsKept w (length vector) text new (nat_le (length vector) 65536) kept (λ did. subst IsKept (sym did.1) (kept_after_pull w k m j n kept named.1 other.1)) acts
+    by true true true (said, same) = subst IsKept (sym same) kept
+    by true false c (said, same) = subst IsKept (sym same) kept
+    by false b c (said, same) = subst IsKept (sym same) kept
 does_kept w (lines.Show name) text new kept does = by (is_some (place_of w.members name)) does
   where
     by : (b : Bool) → MatchOption (cond b None (Some (Unknown name))) (Acts w (lines.Show name) text new) (λ why. IsRefused w why text new) → IsKept new
@@ -104,6 +132,21 @@ change_prints w name path moment k m held vector named h v = by (nat_le (length 
     by true e = does (printed (change_words name m.next)) (after_change w k m path (change_of k m path moment held)) (subst (Then _ _) (sym e) (refl, refl))
     by false e = does (printed (refusal_words (VectorFull (length vector)))) w (subst (Then _ _) (sym e) (refl, refl))
 
+-- a pull with its updates and a vector at hand
+pull_prints : (w : World) (name partner : List ℕ) (k : ℕ) (m : Member) (j : ℕ) (n : Member) (us : List Update) (vector : List Interval) → IsNamed w name k m → IsNamed w partner j n
+    → bytes_eq name partner ≡ false → Lists (IsAdopted w.all m.known n.known) us → IsVector (both m.known n.known) vector
+    → (text : List ℕ) × (new : World) × Does w (lines.Pull name partner) text new
+pull_prints w name partner k m j n us vector named other apart a v = by (nat_le (length vector) 65536) refl
+  where
+    Then : List ℕ → World → Bool → Type 0
+    Then text new t = MatchBool t ((text ≡ printed (pull_words (length us))) × (new ≡ after_pull w k m n)) (IsRefused w (VectorFull (length vector)) text new)
+    does : (text : List ℕ) (new : World) → Then text new (nat_le (length vector) 65536) → (text : List ℕ) × (new : World) × Does w (lines.Pull name partner) text new
+    does text new then =
+        (text, new, acts_of_three _ (Unknown name) (Unknown partner) Itself _ _ _ (ap is_some named.0) (ap is_some other.0) apart (k, m, j, n, us, named, other, a, (vector, v, then)))
+    by : (b : Bool) → nat_le (length vector) 65536 ≡ b → (text : List ℕ) × (new : World) × Does w (lines.Pull name partner) text new
+    by true e = does (printed (pull_words (length us))) (after_pull w k m n) (subst (Then _ _) (sym e) (refl, refl))
+    by false e = does (printed (refusal_words (VectorFull (length vector)))) w (subst (Then _ _) (sym e) (refl, refl))
+
 line_prints : (w : World) → IsKept w → (line : Line) → (text : List ℕ) × (new : World) × Does w line text new
 line_prints w kept (lines.Member name kind) = by (is_some (place_of w.members name)) refl
   where
@@ -119,6 +162,18 @@ line_prints w kept (lines.Change name path moment) = by (place_of w.members name
         let (vector, records, v, l) = kept.lists k m at in
         change_prints w name path moment k m (held_at k m path records) (inserted (one_version (next_gvsn k m)) vector) (e, at) (found_held w.all m.known records (uid_at k m path) l)
         (vector_more m.known vector (next_gvsn k m) v)
+line_prints w kept (lines.Pull name partner) = by (place_of w.members name) (place_of w.members partner) (bytes_eq name partner) refl refl refl
+  where
+    by : (found other : Option ℕ) (same : Bool) → place_of w.members name ≡ found → place_of w.members partner ≡ other → bytes_eq name partner ≡ same
+        → (text : List ℕ) × (new : World) × Does w (lines.Pull name partner) text new
+    by None other same e f g = (_, w, first_of_three _ _ (Unknown name) (Unknown partner) Itself _ _ _ (ap is_some e) (refl, refl))
+    by (Some k) None same e f g = (_, w, second_of_three _ _ (Unknown name) (Unknown partner) Itself _ _ _ (ap is_some e) (ap is_some f) (refl, refl))
+    by (Some k) (Some j) true e f g = (_, w, third_of_three _ _ (Unknown name) (Unknown partner) Itself _ _ _ (ap is_some e) (ap is_some f) g (refl, refl))
+    by (Some k) (Some j) false e f g =
+        let (m, at) = found_at (λ m. bytes_eq m.name name) w.members k e in
+        let (n, from) = found_at (λ m. bytes_eq m.name partner) w.members j f in
+        let (vector, us, records, v, a, l) = both_lists w.all m n kept.sound.one_each (kept.lists k m at) (kept.lists j n from) in
+        pull_prints w name partner k m j n us vector (e, at) (f, from) g a v
 line_prints w kept (lines.Show name) = by (place_of w.members name) refl
   where
     by : (found : Option ℕ) → place_of w.members name ≡ found → (text : List ℕ) × (new : World) × Does w (lines.Show name) text new
@@ -185,6 +240,23 @@ one_change w name path moment a b x y k m sound (held, h, (vector, v, acts)) (he
     by true (said, is) (said', is') = (said ∙ sym said', is ∙ sym is')
     by false (said, is) (said', is') = (said ∙ sym said', is ∙ sym is')
 
+-- what a pull of the k-th member does
+abbrev Pulled : World → List ℕ → World → ℕ → Member → Member → Type 0
+Pulled w text new k m n = (us : List Update) × Lists (IsAdopted w.all m.known n.known) us
+    × Widens w (both m.known n.known) ((text ≡ printed (pull_words (length us))) × (new ≡ after_pull w k m n)) text new
+
+one_pull : (w : World) (a b : List ℕ) (x y : World) (k : ℕ) (m n : Member) → Pulled w a x k m n → Pulled w b y k m n → (a ≡ b) × (x ≡ y)
+one_pull w a b x y k m n (us, l, (vector, v, acts)) (us', l', (vector', v', acts')) =
+    let same = one_list (IsAdopted w.all m.known n.known) us us' l l' in
+    let alike = one_vector (both m.known n.known) vector vector' v v' in
+    by (nat_le (length vector) 65536) acts (subst (λ z. Then (length z) b y us (nat_le (length z) 65536)) (sym alike) (subst (λ z. Then (length vector') b y z (nat_le (length vector') 65536)) (sym same) acts'))
+  where
+    Then : ℕ → List ℕ → World → List Update → Bool → Type 0
+    Then count text new puts t = MatchBool t ((text ≡ printed (pull_words (length puts))) × (new ≡ after_pull w k m n)) (IsRefused w (VectorFull count) text new)
+    by : (t : Bool) → Then (length vector) a x us t → Then (length vector) b y us t → (a ≡ b) × (x ≡ y)
+    by true (said, is) (said', is') = (said ∙ sym said', is ∙ sym is')
+    by false (said, is) (said', is') = (said ∙ sym said', is ∙ sym is')
+
 one_does : (w : World) (line : Line) (a b : List ℕ) (x y : World) → IsSound w → Does w line a x → Does w line b y → (a ≡ b) × (x ≡ y)
 one_does w (lines.Member name kind) a b x y sound does does' = by (is_some (place_of w.members name)) does does'
   where
@@ -205,6 +277,19 @@ one_does w (lines.Change name path moment) a b x y sound does does' = by (is_som
         let moved = subst (λ n. Changed w name path moment b y k n) (sym alike) (subst (λ j. Changed w name path moment b y j m') (sym same) (held', h', wide')) in
         one_change w name path moment a b x y k m sound (held, h, wide) moved
     by false (said, is) (said', is') = (said ∙ sym said', is ∙ sym is')
+one_does w (lines.Pull name partner) a b x y sound does does' = by (is_some (place_of w.members name)) (is_some (place_of w.members partner)) (bytes_eq name partner) does does'
+  where
+    Then : List ℕ → World → Bool → Bool → Bool → Type 0
+    Then text new p q r = MatchOption (cond p (cond q (cond r (Some Itself) None) (Some (Unknown partner))) (Some (Unknown name))) (Acts w (lines.Pull name partner) text new) (λ why. IsRefused w why text new)
+    by : (p q r : Bool) → Then a x p q r → Then b y p q r → (a ≡ b) × (x ≡ y)
+    by true true false (k, m, j, n, us, named, other, lists, wide) (k', m', j', n', us', named', other', lists', wide') =
+        let (same, alike) = same_named w name k k' m m' named named' in
+        let (beside, like) = same_named w partner j j' n n' other other' in
+        let moved = subst (λ i. Pulled w b y i m n) (sym same) (subst (λ o. Pulled w b y k' o n) (sym alike) (subst (λ o. Pulled w b y k' m' o) (sym like) (us', lists', wide'))) in
+        one_pull w a b x y k m n (us, lists, wide) moved
+    by true true true (said, is) (said', is') = (said ∙ sym said', is ∙ sym is')
+    by true false r (said, is) (said', is') = (said ∙ sym said', is ∙ sym is')
+    by false q r (said, is) (said', is') = (said ∙ sym said', is ∙ sym is')
 one_does w (lines.Show name) a b x y sound does does' = by (is_some (place_of w.members name)) does does'
   where
     Then : List ℕ → World → Bool → Type 0

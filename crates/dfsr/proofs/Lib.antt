@@ -9,11 +9,11 @@ pub mod Winning
 pub mod Listing
 pub mod Places
 pub mod Texts
+pub mod Pulling
 pub mod Made
 pub mod Recording
 pub mod Members
 pub mod Bounds
-pub mod Pulling
 pub mod Lasting
 pub mod Causes
 pub mod Writing

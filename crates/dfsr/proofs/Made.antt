@@ -9,9 +9,11 @@ use Rattle.win_order.specs.Order.{Beats}
 use Rattle.win_order.specs.declared.update.Update.{Update}
 use Rattle.dfsr.specs.Records.{Covered, In, IsHeld, IsWinner, Lists, plus}
 use Rattle.dfsr.specs.Standing.{IsMade, IsSound}
+use Rattle.dfsr.specs.Text.{after_pull}
 use Rattle.dfsr.specs.World.{Member, World, with_member}
 use Rattle.dfsr.proofs.Keys.{same_gvsn_is, same_gvsn_refl}
 use Rattle.dfsr.proofs.Pairs.{get_push, get_push_cases, get_set_other, get_set_same}
+use Rattle.dfsr.proofs.Pulling.{or_cases}
 use Rattle.dfsr.proofs.Winning.{Grown, beats_all, in_new, in_old, in_push, wins_same}
 
 -- ---- versions
@@ -142,3 +144,24 @@ sound_after w k m m' u s at db version next known = record {
     one a b (inl ha) (inr eb) same = absurd (unmade a ha (same ∙ ap (λ x. x.gvsn) eb))
     one a b (inr ea) (inl hb) same = absurd (unmade b hb (sym same ∙ ap (λ x. x.gvsn) ea))
     one a b (inr ea) (inr eb) same = ea ∙ sym eb
+
+-- ---- the world after a pull
+
+-- a member covers more of what was made
+pub sound_covering : (w : World) (k : ℕ) (m m' : Member) → IsSound w → slice_get w.members k ≡ Some m → m'.next ≡ m.next → ((g : Gvsn) → m'.known g ≡ true → IsMade w.members g)
+    → IsSound (record w { members = set w.members k m' })
+sound_covering w k m m' s at next known = record {
+  recorded = λ v h. made_then w.members k m m' v.gvsn at (omega arith) (s.recorded v h);
+  known = λ j n e g t. made_then w.members k m m' g at (omega arith) (elim (cases_eq j k) [
+    | inl same ↦
+        let is : Some m' ≡ Some n = sym (get_set_same w.members k m m' at) ∙ sym (ap (slice_get (set w.members k m')) same) ∙ e in
+        let own : m' ≡ n = cc in
+        known g (ap (λ x. x.known g) own ∙ t)
+    | inr other ↦ s.known j n (sym (get_set_other w.members k j m' other) ∙ e) g t
+  ]);
+  one_each = s.one_each;
+}
+
+pub pulled_sound : (w : World) (k : ℕ) (m : Member) (j : ℕ) (n : Member) → IsSound w → slice_get w.members k ≡ Some m → slice_get w.members j ≡ Some n → IsSound (after_pull w k m n)
+pulled_sound w k m j n s at from =
+    sound_covering w k m _ s at refl (λ g t. elim (or_cases (n.known g) (m.known g) t) [ inl theirs ↦ s.known j n from g theirs | inr ours ↦ s.known k m at g ours ])

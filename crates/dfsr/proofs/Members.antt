@@ -23,16 +23,18 @@ use Rattle.dfsr.specs.Change.{base_of, born_of, change_of, file_update, name_of,
 use Rattle.dfsr.specs.Changes.{Changes, IsFresh, IsUnchanged, made_by}
 use Rattle.dfsr.specs.Names.{names_held}
 use Rattle.dfsr.specs.Printed.{printed, record_words, vector_words}
+use Rattle.dfsr.specs.Pulls.{Takes, adopted}
 use Rattle.dfsr.specs.Putting.{put_record}
-use Rattle.dfsr.specs.Records.{Covered, IsWinner, Lists, plus}
+use Rattle.dfsr.specs.Records.{Covered, In, IsAdopted, IsHeld, IsWinner, Lists, both, plus}
 use Rattle.dfsr.specs.Standing.{IsSound, MemberStands, Stands}
-use Rattle.dfsr.specs.Text.{Does, Exists, IsRefused, IsVector, Unknown, VectorFull, Widens, after_change, change_words, refusal_words}
+use Rattle.dfsr.specs.Text.{Acts, Does, Exists, IsRefused, IsVector, Itself, Unknown, VectorFull, Widens, after_change, after_pull, change_words, pull_words, refusal_words}
 use Rattle.dfsr.specs.World.{Member, World, fresh_member, place_of, with_member}
 use Rattle.dfsr.proofs.Listing.{found_held}
-use Rattle.dfsr.proofs.Made.{sound_with_member}
+use Rattle.dfsr.proofs.Made.{pulled_sound, sound_with_member}
 use Rattle.dfsr.proofs.Pairs.{indexed, zip_at, zip_map, zip_position, zip_push, zip_replace, zip_set}
+use Rattle.dfsr.proofs.Pulling.{adopted_lists, pulled_lists, vector_of_both, vector_taken}
 use Rattle.dfsr.proofs.Recording.{change_sound, other_records, own_records}
-use Rattle.dfsr.proofs.Refusals.{acts_if, acts_unless, refused_if, refused_unless}
+use Rattle.dfsr.proofs.Refusals.{acts_if, acts_of_three, acts_unless, first_of_three, refused_if, refused_unless, second_of_three, third_of_three}
 
 -- ---- names
 
@@ -292,3 +294,83 @@ change_cut old new w name path moment k db count h h' s held at own long c is =
     let (m, at', stands) = zip_at (MemberStands w.all) old.members.items w.members k h s.members at in
     let wide = subst (λ d. IsTooLong (errors.VectorFull count) (plus (covers h.vector) (record { db = d; version = h.next }))) own long in
     (w, change_too_wide old w name path moment k count h m s held at' stands wide, same_stands old new w k h h' m s at' stands c is)
+
+-- ---- `pull`
+
+pub pull_unknown : (engine : Engine) (w : World) (name partner : List ℕ) → Stands engine w → place_held engine.members.items name ≡ None
+    → Does w (lines.Pull name partner) (printed (refusal_words (Unknown name))) w
+pull_unknown engine w name partner s held =
+    let place : place_of w.members name ≡ None = sym (place_same w.all _ w.members name s.members) ∙ held in
+    first_of_three _ _ (Unknown name) (Unknown partner) Itself _ _ _ (ap is_some place) (refl, refl)
+
+pub pull_from_unknown : (engine : Engine) (w : World) (name partner : List ℕ) (k : ℕ) → Stands engine w → place_held engine.members.items name ≡ Some k → place_held engine.members.items partner ≡ None
+    → Does w (lines.Pull name partner) (printed (refusal_words (Unknown partner))) w
+pull_from_unknown engine w name partner k s held none =
+    let place : place_of w.members name ≡ Some k = sym (place_same w.all _ w.members name s.members) ∙ held in
+    let other : place_of w.members partner ≡ None = sym (place_same w.all _ w.members partner s.members) ∙ none in
+    second_of_three _ _ (Unknown name) (Unknown partner) Itself _ _ _ (ap is_some place) (ap is_some other) (refl, refl)
+
+pub pull_itself : (engine : Engine) (w : World) (name partner : List ℕ) (k j : ℕ) → Stands engine w → place_held engine.members.items name ≡ Some k → place_held engine.members.items partner ≡ Some j
+    → bytes_eq name partner ≡ true → Does w (lines.Pull name partner) (printed (refusal_words Itself)) w
+pull_itself engine w name partner k j s held there same =
+    let place : place_of w.members name ≡ Some k = sym (place_same w.all _ w.members name s.members) ∙ held in
+    let other : place_of w.members partner ≡ Some j = sym (place_same w.all _ w.members partner s.members) ∙ there in
+    third_of_three _ _ (Unknown name) (Unknown partner) Itself _ _ _ (ap is_some place) (ap is_some other) same (refl, refl)
+
+-- those of the partner's records that the member puts
+abbrev pub adopted_from : Held → Held → List Update
+adopted_from h p = adopted h.vector h.records.items p.records.items
+
+from_lists : (w : World) (h p : Held) (m n : Member) → IsSound w → MemberStands w.all h m → MemberStands w.all p n → Lists (IsAdopted w.all m.known n.known) (adopted_from h p)
+from_lists w h p m n sound s t = adopted_lists w.all m.known n.known h.vector h.records.items p.records.items sound.one_each s.vector.covering s.records t.records
+
+pulled_stands : (w : World) (h p h' : Held) (m n : Member) → IsSound w → MemberStands w.all h m → MemberStands w.all p n → Takes h h' (adopted_from h p) p.vector
+    → MemberStands w.all h' (record m { finished = true; known = both m.known n.known })
+pulled_stands w h p h' m n sound s t c = record {
+  name = ap string_bytes c.name ∙ s.name;
+  kind = c.kind ∙ s.kind;
+  finished = c.finished;
+  files = c.files ∙ s.files;
+  next = c.next ∙ s.next;
+  vector = vector_taken m.known n.known h.vector p.vector h'.vector s.vector t.vector c.vector;
+  records = subst (Lists (IsWinner (Covered w.all (both m.known n.known)))) (sym c.records)
+      (pulled_lists w.all m.known n.known (adopted_from h p) h.records.items (from_lists w h p m n sound s t) s.records);
+}
+
+pub pull_done : (old new : Engine) (w : World) (name partner : List ℕ) (k j : ℕ) (h p h' : Held) → Stands old w → place_held old.members.items name ≡ Some k → slice_get old.members.items k ≡ Some h
+    → place_held old.members.items partner ≡ Some j → slice_get old.members.items j ≡ Some p → bytes_eq name partner ≡ false → Takes h h' (adopted_from h p) p.vector
+    → new.members.items ≡ set old.members.items k h'
+    → (world : World) × Does w (lines.Pull name partner) (printed (pull_words (length (adopted_from h p)))) world × Stands new world
+pull_done old new w name partner k j h p h' s held at there from apart c is =
+    let (m, at', stands) = zip_at (MemberStands w.all) old.members.items w.members k h s.members at in
+    let (n, from', other) = zip_at (MemberStands w.all) old.members.items w.members j p s.members from in
+    let place : place_of w.members name ≡ Some k = sym (place_same w.all _ w.members name s.members) ∙ held in
+    let beside : place_of w.members partner ≡ Some j = sym (place_same w.all _ w.members partner s.members) ∙ there in
+    let own = pulled_stands w h p h' m n s.sound stands other c in (
+      after_pull w k m n,
+      acts_of_three _ (Unknown name) (Unknown partner) Itself _ _ _ (ap is_some place) (ap is_some beside) apart
+      (k, m, j, n, adopted_from h p, (place, at'), (beside, from'), from_lists w h p m n s.sound stands other, widens_to w _ h'.vector _ _ _ own.vector c.within (refl, refl)),
+      record {
+        members = subst (λ l. AllZip (MemberStands w.all) l (after_pull w k m n).members) (sym is)
+            (zip_set (MemberStands w.all) (MemberStands w.all) old.members.items w.members k h' _ s.members (λ i a b differ e r. r) own);
+        sound = pulled_sound w k m j n s.sound at' from';
+      },
+    )
+
+pub pull_cut : (old new : Engine) (w : World) (name partner : List ℕ) (k j count : ℕ) (h p h' : Held) → Stands old w → place_held old.members.items name ≡ Some k → slice_get old.members.items k ≡ Some h
+    → place_held old.members.items partner ≡ Some j → slice_get old.members.items j ≡ Some p → bytes_eq name partner ≡ false
+    → IsTooLong (errors.VectorFull count) (both (covers h.vector) (covers p.vector)) → IsUnchanged h h' → new.members.items ≡ set old.members.items k h'
+    → (world : World) × Does w (lines.Pull name partner) (printed (refusal_words (VectorFull count))) world × Stands new world
+pull_cut old new w name partner k j count h p h' s held at there from apart long c is =
+    let (m, at', stands) = zip_at (MemberStands w.all) old.members.items w.members k h s.members at in
+    let (n, from', other) = zip_at (MemberStands w.all) old.members.items w.members j p s.members from in
+    let place : place_of w.members name ≡ Some k = sym (place_same w.all _ w.members name s.members) ∙ held in
+    let beside : place_of w.members partner ≡ Some j = sym (place_same w.all _ w.members partner s.members) ∙ there in
+    let wide : IsTooLong (errors.VectorFull count) (both m.known n.known) =
+    (long.0, λ list form same. long.1 list form (λ g. same g ∙ sym (λ i. both (λ x. stands.vector.covering x i) (λ x. other.vector.covering x i) g))) in (
+      w,
+      acts_of_three _ (Unknown name) (Unknown partner) Itself _ _ _ (ap is_some place) (ap is_some beside) apart
+      (k, m, j, n, adopted_from h p, (place, at'), (beside, from'), from_lists w h p m n s.sound stands other,
+          too_wide w _ _ count _ (vector_of_both m.known n.known h.vector p.vector stands.vector other.vector) wide),
+      same_stands old new w k h h' m s at' stands c is,
+    )

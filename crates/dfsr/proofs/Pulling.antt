@@ -5,7 +5,10 @@ use Rattle.std.specs.List.{AllByRecursion}
 use Rattle.frs_base.specs.Versions.{same_uid, uid_lt}
 use Rattle.frs_base.specs.declared.version.Gvsn.{Gvsn}
 use Rattle.frs_base.specs.declared.version.Uid.{Uid}
-use Rattle.version_vector.specs.Versions.{covers}
+use Rattle.version_vector.specs.Unions.{inserted}
+use Rattle.version_vector.specs.Versions.{IsCanonical, covers, inside}
+use Rattle.version_vector.proofs.Canonical.{head_full, or_assoc, tail_form}
+use Rattle.version_vector.proofs.Insertions.{covers-inserted, inserted_form}
 use Rattle.version_vector.specs.declared.interval.Interval.{Interval}
 use Rattle.win_order.specs.Order.{Beats, key_lt, key_of}
 use Rattle.win_order.specs.declared.update.Update.{Update}
@@ -14,7 +17,7 @@ use Rattle.dfsr.specs.Putting.{put_all, put_record}
 use Rattle.dfsr.specs.Records.{Covered, In, IsAdopted, IsBetter, IsHeld, IsRising, IsWinner, Lists, both}
 use Rattle.dfsr.specs.Text.{IsVector}
 use Rattle.dfsr.proofs.Keys.{key_cut, key_same, not_below, uid_apart}
-use Rattle.dfsr.proofs.Listing.{above, covered_held, found_held, put_lists, winner_of}
+use Rattle.dfsr.proofs.Listing.{above, covered_held, found_held, put_all as put_of_all, put_lists, put_rising, winner_of}
 use Rattle.dfsr.proofs.Winning.{beats_all, one_held, wins_same}
 
 -- ---- what passes a test
@@ -137,7 +140,7 @@ or_right : (a b : Bool) → a ≡ true → (a || b) ≡ true
 or_right true b e = refl
 or_right false b e = absurd (cc)
 
-or_cases : (a b : Bool) → (a || b) ≡ true → (a ≡ true) ⊎ (b ≡ true)
+pub or_cases : (a b : Bool) → (a || b) ≡ true → (a ≡ true) ⊎ (b ≡ true)
 or_cases true b e = inl refl
 or_cases false b e = inr e
 
@@ -251,3 +254,46 @@ one_more_out p (x ∷ xs) u t = by (p x) (one_more_out p xs u t)
 pub no_items : (us : List Update) → (0 < length us → ⊥) → us ≡ []
 no_items [] none = refl
 no_items (u ∷ us) none = absurd (none (omega arith))
+
+-- ---- a member that takes from another
+
+-- one vector covers what two do
+abbrev pub united : List Interval → List Interval → List Interval
+united [] b = b
+united (i ∷ a) b = inserted i (united a b)
+
+united_form : (a b : List Interval) → IsCanonical a → IsCanonical b → IsCanonical (united a b)
+united_form [] b c d = d
+united_form (i ∷ a) b c d = inserted_form i (united a b) (head_full i a c) (united_form a b (tail_form i a c) d)
+
+united_covers : (a b : List Interval) (g : Gvsn) → IsCanonical a → IsCanonical b → covers (united a b) g ≡ (covers a g || covers b g)
+united_covers [] b g c d = refl
+united_covers (i ∷ a) b g c d =
+    covers-inserted i (united a b) (head_full i a c) (united_form a b (tail_form i a c) d) g ∙ ap (λ t. inside i g || t) (united_covers a b g (tail_form i a c) d) ∙ sym (or_assoc (inside i g) (covers a g) (covers b g))
+
+pub vector_of_both : (K L : Gvsn → Bool) (a b : List Interval) → IsVector K a → IsVector L b → IsVector (both K L) (united b a)
+vector_of_both K L a b v w = record {
+  canonical = united_form b a w.canonical v.canonical;
+  covering = λ g. united_covers b a g w.canonical v.canonical ∙ (λ i. w.covering g i || v.covering g i);
+}
+
+-- what was taken is covered
+pub vector_taken : (K L : Gvsn → Bool) (old other new : List Interval) → IsVector K old → IsVector L other → IsVector (both (covers old) (covers other)) new → IsVector (both K L) new
+vector_taken K L old other new v w made = record { canonical = made.canonical; covering = λ g. made.covering g ∙ (λ i. w.covering g i || v.covering g i) }
+
+-- the updates adopted are as small as the records they are of
+pub adopted_all : (P : Update → Type 0) (vector : List Interval) (records others : List Update) → AllByRecursion P others → AllByRecursion P (adopted vector records others)
+adopted_all P vector records [] a = tt
+adopted_all P vector records (x ∷ xs) a = by (is_adopted vector records x) (adopted_all P vector records xs a.1)
+  where
+    by : (b : Bool) → AllByRecursion P (adopted vector records xs) → AllByRecursion P (cond b (x ∷ adopted vector records xs) (adopted vector records xs))
+    by true rest = (a.0, rest)
+    by false rest = rest
+
+pub put_all_all : (P : Update → Type 0) (us rs : List Update) → AllByRecursion P us → AllByRecursion P rs → AllByRecursion P (put_all us rs)
+put_all_all P [] rs a b = b
+put_all_all P (u ∷ us) rs a b = put_of_all P u (put_all us rs) (put_all_all P us rs a.1 b) a.0
+
+pub put_all_rising : (us rs : List Update) → IsRising rs → IsRising (put_all us rs)
+put_all_rising [] rs up = up
+put_all_rising (u ∷ us) rs up = put_rising u (put_all us rs) (put_all_rising us rs up)

@@ -20,6 +20,28 @@ pub refused_if : (A : Type 0) {X : Type 0} (R : X → Type 0) (x : X) (b : Bool)
 refused_if A R x true e r = r
 refused_if A R x false e r = absurd (cc)
 
+-- a line with three refusals
+pub acts_of_three : {A X : Type 0} (R : X → Type 0) (x y z : X) (a b c : Bool) → a ≡ true → b ≡ true → c ≡ false → A → MatchOption (cond a (cond b (cond c (Some z) None) (Some y)) (Some x)) A R
+acts_of_three R x y z true true false p q r acts = acts
+acts_of_three R x y z true true true p q r acts = absurd (cc)
+acts_of_three R x y z true false c p q r acts = absurd (cc)
+acts_of_three R x y z false b c p q r acts = absurd (cc)
+
+pub first_of_three : (A : Type 0) {X : Type 0} (R : X → Type 0) (x y z : X) (a b c : Bool) → a ≡ false → R x → MatchOption (cond a (cond b (cond c (Some z) None) (Some y)) (Some x)) A R
+first_of_three A R x y z false b c p r = r
+first_of_three A R x y z true b c p r = absurd (cc)
+
+pub second_of_three : (A : Type 0) {X : Type 0} (R : X → Type 0) (x y z : X) (a b c : Bool) → a ≡ true → b ≡ false → R y → MatchOption (cond a (cond b (cond c (Some z) None) (Some y)) (Some x)) A R
+second_of_three A R x y z true false c p q r = r
+second_of_three A R x y z true true c p q r = absurd (cc)
+second_of_three A R x y z false b c p q r = absurd (cc)
+
+pub third_of_three : (A : Type 0) {X : Type 0} (R : X → Type 0) (x y z : X) (a b c : Bool) → a ≡ true → b ≡ true → c ≡ true → R z → MatchOption (cond a (cond b (cond c (Some z) None) (Some y)) (Some x)) A R
+third_of_three A R x y z true true true p q s r = r
+third_of_three A R x y z true true false p q s r = absurd (cc)
+third_of_three A R x y z true false c p q s r = absurd (cc)
+third_of_three A R x y z false b c p q s r = absurd (cc)
+
 -- what is said of a text is said of the text that a call made
 pub said_of : {E : Type 0} (r : Result (String Global) E) (text : List ℕ) (Q : List ℕ → Type 0) → IfOk r (λ made. string_bytes made ≡ text) → Q text → IfOk r (λ made. Q (string_bytes made))
 said_of (Ok made) text Q is q = subst Q (sym is) q
