@@ -81,7 +81,7 @@ kept_after_pull w k m j n kept at from =
     }
 
 -- what holds of the old world and of the widened one holds of the new one
-widened : (A : Type 0) (P : World → Type 0) (w : World) (count : ℕ) (text : List ℕ) (new : World) (b : Bool) → P w → (A → P new) → MatchBool b A (IsRefused w (VectorFull count) text new) → P new
+pub widened : (A : Type 0) (P : World → Type 0) (w : World) (count : ℕ) (text : List ℕ) (new : World) (b : Bool) → P w → (A → P new) → MatchBool b A (IsRefused w (VectorFull count) text new) → P new
 widened A P w count text new true old f acts = f acts
 widened A P w count text new false old f (said, same) = subst P (sym same) old
 

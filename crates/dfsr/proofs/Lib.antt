@@ -15,5 +15,6 @@ pub mod Recording
 pub mod Members
 pub mod Bounds
 pub mod Lasting
+pub mod Covering
 pub mod Causes
 pub mod Writing

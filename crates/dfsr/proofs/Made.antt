@@ -63,10 +63,10 @@ made_now members k m m' g at db early = (k, m', get_set_same members k m m' at, 
 
 -- ---- what is covered
 
-plus_new : (known : Gvsn → Bool) (g : Gvsn) → plus known g g ≡ true
+pub plus_new : (known : Gvsn → Bool) (g : Gvsn) → plus known g g ≡ true
 plus_new known g = ap (λ b. b || known g) (same_gvsn_refl g)
 
-plus_old : (known : Gvsn → Bool) (g h : Gvsn) → known h ≡ true → plus known g h ≡ true
+pub plus_old : (known : Gvsn → Bool) (g h : Gvsn) → known h ≡ true → plus known g h ≡ true
 plus_old known g h t = by (same_gvsn g h)
   where
     by : (b : Bool) → (b || known h) ≡ true

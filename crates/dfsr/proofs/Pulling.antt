@@ -1,5 +1,5 @@
 -- A member takes from another what wins.
-use Rattle.std.proofs.Common.{◌≡◌, ◌<◌, ◌≤◌, ◌+◌, ◌++◌, arith, length, ◌⊎◌, ◌&&◌, ◌||◌, inl, inr, Bool, true, false, cond, not, List, [], ◌∷◌, refl, sym, ap, ◌∙◌, subst, Option, Some, None, MatchOption}
+use Rattle.std.proofs.Common.{◌≡◌, ◌↔◌, ◌<◌, ◌≤◌, ◌+◌, ◌++◌, arith, length, ◌⊎◌, ◌&&◌, ◌||◌, inl, inr, Bool, true, false, cond, not, List, [], ◌∷◌, refl, sym, ap, ◌∙◌, subst, Option, Some, None, MatchOption}
 use Rattle.std.specs.Prelude.{filter, find}
 use Rattle.std.specs.List.{AllByRecursion}
 use Rattle.frs_base.specs.Versions.{same_uid, uid_lt}
@@ -103,7 +103,7 @@ adopted_lists all K L vector records others one covering own offered = record {
 
 -- ---- what is put
 
-lists_same : (P Q : Update → Type 0) (list : List Update) → ((u : Update) → P u → Q u) → ((u : Update) → Q u → P u) → Lists P list → Lists Q list
+pub lists_same : (P Q : Update → Type 0) (list : List Update) → ((u : Update) → P u → Q u) → ((u : Update) → Q u → P u) → Lists P list → Lists Q list
 lists_same P Q list to back l = record { rising = l.rising; each = λ u h. to u (l.each u h); whole = λ u q. l.whole u (back u q) }
 
 -- each update put outdoes all of its file, so the records are the winners with them
@@ -132,7 +132,7 @@ put_all_lists P (u ∷ us) records up beaten l =
 
 -- ---- who wins of what both cover
 
-or_left : (a b : Bool) → b ≡ true → (a || b) ≡ true
+pub or_left : (a b : Bool) → b ≡ true → (a || b) ≡ true
 or_left true b e = refl
 or_left false b e = e
 
@@ -297,3 +297,29 @@ put_all_all P (u ∷ us) rs a b = put_of_all P u (put_all us rs) (put_all_all P 
 pub put_all_rising : (us rs : List Update) → IsRising rs → IsRising (put_all us rs)
 put_all_rising [] rs up = up
 put_all_rising (u ∷ us) rs up = put_rising u (put_all us rs) (put_all_rising us rs up)
+
+-- ---- winners of two sets
+
+lasts_in : (all : List Update) (K L : Gvsn → Bool) (w : Update) → IsWinner (Covered all (both K L)) w → K w.gvsn ≡ true → IsWinner (Covered all K) w
+lasts_in all K L w h t = record { among = (h.among.0, t); unbeaten = λ v c b. h.unbeaten v (c.0, or_left (L v.gvsn) (K v.gvsn) c.1) b }
+
+lasts_in_other : (all : List Update) (K L : Gvsn → Bool) (w : Update) → IsWinner (Covered all (both K L)) w → L w.gvsn ≡ true → IsWinner (Covered all L) w
+lasts_in_other all K L w h t = record { among = (h.among.0, t); unbeaten = λ v c b. h.unbeaten v (c.0, or_right (L v.gvsn) (K v.gvsn) c.1) b }
+
+pub winners_join : (all : List Update) (K L : Gvsn → Bool) (u : Update) → IsWinner (Covered all (both K L)) u ↔ IsWinner (λ v. IsWinner (Covered all K) v ⊎ IsWinner (Covered all L) v) u
+winners_join all K L u = (
+  (λ h. record {
+    among = elim (or_cases (L u.gvsn) (K u.gvsn) h.among.1) [ inl theirs ↦ inr (lasts_in_other all K L u h theirs) | inr ours ↦ inl (lasts_in all K L u h ours) ];
+    unbeaten = λ v either b. h.unbeaten v (covered v either) b;
+  }),
+  (λ h. record { among = covered u h.among; unbeaten = λ v c b. elim (or_cases (L v.gvsn) (K v.gvsn) c.1) [
+    | inl theirs ↦ let (n, wins, file, low) = covered_held all L v (c.0, theirs) in h.unbeaten n (inr wins) (above_it v n b file low)
+    | inr ours ↦ let (n, wins, file, low) = covered_held all K v (c.0, ours) in h.unbeaten n (inl wins) (above_it v n b file low)
+  ] }),
+)
+  where
+    covered : (v : Update) → IsWinner (Covered all K) v ⊎ IsWinner (Covered all L) v → Covered all (both K L) v
+    covered v (inl w) = (w.among.0, or_left (L v.gvsn) (K v.gvsn) w.among.1)
+    covered v (inr w) = (w.among.0, or_right (L v.gvsn) (K v.gvsn) w.among.1)
+    above_it : (v n : Update) → Beats v u → n.uid ≡ v.uid → key_lt (key_of n) (key_of v) ≡ false → Beats n u
+    above_it v n b file low = record { file = file ∙ b.file; greater = key_cut (key_of u) (key_of n) (key_of v) b.greater low }
