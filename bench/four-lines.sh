@@ -1,6 +1,6 @@
 #!/bin/sh
-# Times the built program on scripts of `show` lines and of `change` lines over 97 paths: the largest
-# that a script may be and smaller ones. Each time is the least of five runs, with the start of the
+# Times the built program on scripts of `show` lines, of `change` lines over 97 paths, the largest that
+# a script may be and smaller ones, and of three members that change and pull. Each time is the least of five runs, with the start of the
 # process in it.
 # Usage: bench/four-lines.sh, anywhere in the repository.
 set -eu
@@ -22,6 +22,19 @@ changes() {
     seq 0 "$(($1 - 1))" | awk '{ print "change a f" $1 % 97 " " $1 }'
 }
 
+# three members, this many `change` lines over 97 paths, one member after the other, and a pull every
+# 50 lines, from each of the others in turn
+pulls() {
+    printf 'member a primary\nmember b plain\nmember c plain\n'
+    seq 0 "$(($1 - 1))" | awk 'BEGIN { split("a b c", m, " ") } {
+        print "change " m[$1 % 3 + 1] " f" $1 % 97 " " $1
+        if ($1 % 50 == 49) {
+            n = int($1 / 50)
+            print "pull " m[n % 3 + 1] " " m[(n + 1 + int(n / 3) % 2) % 3 + 1]
+        }
+    }'
+}
+
 timed() {
     for _ in 1 2 3 4 5; do
         start=$(date +%s%N)
@@ -39,4 +52,9 @@ done
 for lines in 5000 10000 20000 56076; do
     changes $lines >"$work/script"
     echo "$(wc -c <"$work/script") bytes, $lines change lines: $(timed "$work/script") microseconds"
+done
+
+for lines in 5000 10000 20000; do
+    pulls $lines >"$work/script"
+    echo "$(wc -c <"$work/script") bytes, $lines change lines and a pull every 50: $(timed "$work/script") microseconds"
 done

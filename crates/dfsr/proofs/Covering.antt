@@ -1,16 +1,15 @@
 -- What is covered stays covered.
-use Rattle.std.proofs.Common.{◌≡◌, ◌≢◌, ◌⊎◌, ◌+◌, inl, inr, ℕ, Bool, true, false, cond, List, [], ◌∷◌, ◌++◌, length, set, refl, sym, ap, ◌∙◌, subst, Option, Some, None, MatchBool, MatchOption, bytes_eq}
+use Rattle.std.proofs.Common.{◌≡◌, inl, inr, ℕ, Bool, true, false, cond, List, [], ◌∷◌, length, set, refl, sym, ap, ◌∙◌, subst, Option, Some, None, MatchOption, bytes_eq}
 use Rattle.std.specs.Prelude.{is_some, nat_le, slice_get}
 use Rattle.std.proofs.lemmas.Bool.{cases_eq}
-use Rattle.frs_base.specs.Identifiers.{database_of}
 use Rattle.frs_base.specs.declared.version.Gvsn.{Gvsn}
 use Rattle.win_order.specs.declared.update.Update.{Update}
 use Rattle.dfsr.specs.declared.line.Line.{Line}
 use Rattle.dfsr.specs.declared.line.Line.TheVariants as lines
 use Rattle.dfsr.specs.Change.{change_of, next_gvsn}
 use Rattle.dfsr.specs.Laws.{IsCovered, Lasts}
-use Rattle.dfsr.specs.Records.{Covered, In, IsWinner, Lists, both, plus}
-use Rattle.dfsr.specs.Text.{Acts, Does, Exists, IsRefused, Itself, Run, Unknown, VectorFull, after_change, after_pull}
+use Rattle.dfsr.specs.Records.{Covered, In, IsWinner, Lists}
+use Rattle.dfsr.specs.Text.{Acts, Does, Exists, IsRefused, Itself, Run, Unknown, after_change, after_pull}
 use Rattle.dfsr.specs.World.{Member, World, fresh_member, fresh_world, place_of, with_member}
 use Rattle.dfsr.proofs.Lasting.{widened}
 use Rattle.dfsr.proofs.Listing.{one_list}
@@ -26,6 +25,7 @@ equal_records all m n alike a b k l =
   where
     to : (v : Update) → Covered all m.known v → Covered all n.known v
     to v c = (c.0, sym (alike v.gvsn) ∙ c.1)
+
     back : (v : Update) → Covered all n.known v → Covered all m.known v
     back v c = (c.0, alike v.gvsn ∙ c.1)
 
@@ -114,6 +114,7 @@ does_cover w (lines.Change name path moment) text new all does = by (is_some (pl
       | inr new ↦ subst (λ x. IsCovered (after_change w k m path (change_of k m path moment held)).members x.gvsn) (sym new)
           (k, _, get_set_same w.members k m _ at, refl, plus_new m.known (next_gvsn k m))
     ]
+
     by : (b : Bool) → MatchOption (cond b None (Some (Unknown name))) (Acts w (lines.Change name path moment) text new) (λ why. IsRefused w why text new) → AllCovered new
     by true (k, m, held, named, h, (vector, v, acts)) =
         widened _ AllCovered w (length vector) text new (nat_le (length vector) 65536) all (λ a. subst AllCovered (sym a.1) (after k m held named.1)) acts

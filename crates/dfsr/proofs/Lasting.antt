@@ -3,7 +3,6 @@ use Rattle.std.proofs.Common.{◌≡◌, ◌++◌, ℕ, Bool, true, false, cond,
 use Rattle.std.specs.Prelude.{codes, flat_map, is_some, nat_le, slice_get}
 use Rattle.frs_base.specs.declared.kind.MemberKind.{MemberKind}
 use Rattle.frs_base.specs.declared.version.Gvsn.{Gvsn}
-use Rattle.frs_base.specs.declared.version.Uid.{Uid}
 use Rattle.version_vector.specs.Places.{one_version}
 use Rattle.version_vector.specs.Unions.{inserted}
 use Rattle.version_vector.specs.declared.interval.Interval.{Interval}
@@ -68,9 +67,14 @@ both_lists : (all : List Update) (m n : Member) → ((u v : Update) → In u all
     → (vector : List Interval) × (us : List Update) × (records : List Update) × IsVector (both m.known n.known) vector × Lists (IsAdopted all m.known n.known) us
     × Lists (IsWinner (Covered all (both m.known n.known))) records
 both_lists all m n one (vector, records, v, l) (other, others, w, o) =
-    let a = adopted_lists all m.known n.known vector records others one v.covering l o in
-    (united other vector, adopted vector records others, put_all (adopted vector records others) records, vector_of_both m.known n.known vector other v w, a,
-        pulled_lists all m.known n.known (adopted vector records others) records a l)
+    let a = adopted_lists all m.known n.known vector records others one v.covering l o in (
+      united other vector,
+      adopted vector records others,
+      put_all (adopted vector records others) records,
+      vector_of_both m.known n.known vector other v w,
+      a,
+      pulled_lists all m.known n.known (adopted vector records others) records a l,
+    )
 
 kept_after_pull : (w : World) (k : ℕ) (m : Member) (j : ℕ) (n : Member) → IsKept w → slice_get w.members k ≡ Some m → slice_get w.members j ≡ Some n → IsKept (after_pull w k m n)
 kept_after_pull w k m j n kept at from =
@@ -140,9 +144,11 @@ pull_prints w name partner k m j n us vector named other apart a v = by (nat_le 
   where
     Then : List ℕ → World → Bool → Type 0
     Then text new t = MatchBool t ((text ≡ printed (pull_words (length us))) × (new ≡ after_pull w k m n)) (IsRefused w (VectorFull (length vector)) text new)
+
     does : (text : List ℕ) (new : World) → Then text new (nat_le (length vector) 65536) → (text : List ℕ) × (new : World) × Does w (lines.Pull name partner) text new
     does text new then =
         (text, new, acts_of_three _ (Unknown name) (Unknown partner) Itself _ _ _ (ap is_some named.0) (ap is_some other.0) apart (k, m, j, n, us, named, other, a, (vector, v, then)))
+
     by : (b : Bool) → nat_le (length vector) 65536 ≡ b → (text : List ℕ) × (new : World) × Does w (lines.Pull name partner) text new
     by true e = does (printed (pull_words (length us))) (after_pull w k m n) (subst (Then _ _) (sym e) (refl, refl))
     by false e = does (printed (refusal_words (VectorFull (length vector)))) w (subst (Then _ _) (sym e) (refl, refl))
@@ -253,6 +259,7 @@ one_pull w a b x y k m n (us, l, (vector, v, acts)) (us', l', (vector', v', acts
   where
     Then : ℕ → List ℕ → World → List Update → Bool → Type 0
     Then count text new puts t = MatchBool t ((text ≡ printed (pull_words (length puts))) × (new ≡ after_pull w k m n)) (IsRefused w (VectorFull count) text new)
+
     by : (t : Bool) → Then (length vector) a x us t → Then (length vector) b y us t → (a ≡ b) × (x ≡ y)
     by true (said, is) (said', is') = (said ∙ sym said', is ∙ sym is')
     by false (said, is) (said', is') = (said ∙ sym said', is ∙ sym is')
@@ -281,6 +288,7 @@ one_does w (lines.Pull name partner) a b x y sound does does' = by (is_some (pla
   where
     Then : List ℕ → World → Bool → Bool → Bool → Type 0
     Then text new p q r = MatchOption (cond p (cond q (cond r (Some Itself) None) (Some (Unknown partner))) (Some (Unknown name))) (Acts w (lines.Pull name partner) text new) (λ why. IsRefused w why text new)
+
     by : (p q r : Bool) → Then a x p q r → Then b y p q r → (a ≡ b) × (x ≡ y)
     by true true false (k, m, j, n, us, named, other, lists, wide) (k', m', j', n', us', named', other', lists', wide') =
         let (same, alike) = same_named w name k k' m m' named named' in

@@ -25,9 +25,9 @@ use Rattle.dfsr.specs.Names.{names_held}
 use Rattle.dfsr.specs.Printed.{printed, record_words, vector_words}
 use Rattle.dfsr.specs.Pulls.{Takes, adopted}
 use Rattle.dfsr.specs.Putting.{put_record}
-use Rattle.dfsr.specs.Records.{Covered, In, IsAdopted, IsHeld, IsWinner, Lists, both, plus}
+use Rattle.dfsr.specs.Records.{Covered, IsAdopted, IsWinner, Lists, both, plus}
 use Rattle.dfsr.specs.Standing.{IsSound, MemberStands, Stands}
-use Rattle.dfsr.specs.Text.{Acts, Does, Exists, IsRefused, IsVector, Itself, Unknown, VectorFull, Widens, after_change, after_pull, change_words, pull_words, refusal_words}
+use Rattle.dfsr.specs.Text.{Does, Exists, IsRefused, IsVector, Itself, Unknown, VectorFull, Widens, after_change, after_pull, change_words, pull_words, refusal_words}
 use Rattle.dfsr.specs.World.{Member, World, fresh_member, place_of, with_member}
 use Rattle.dfsr.proofs.Listing.{found_held}
 use Rattle.dfsr.proofs.Made.{pulled_sound, sound_with_member}
@@ -349,7 +349,7 @@ pull_done old new w name partner k j h p h' s held at there from apart c is =
     let own = pulled_stands w h p h' m n s.sound stands other c in (
       after_pull w k m n,
       acts_of_three _ (Unknown name) (Unknown partner) Itself _ _ _ (ap is_some place) (ap is_some beside) apart
-      (k, m, j, n, adopted_from h p, (place, at'), (beside, from'), from_lists w h p m n s.sound stands other, widens_to w _ h'.vector _ _ _ own.vector c.within (refl, refl)),
+          (k, m, j, n, adopted_from h p, (place, at'), (beside, from'), from_lists w h p m n s.sound stands other, widens_to w _ h'.vector _ _ _ own.vector c.within (refl, refl)),
       record {
         members = subst (λ l. AllZip (MemberStands w.all) l (after_pull w k m n).members) (sym is)
             (zip_set (MemberStands w.all) (MemberStands w.all) old.members.items w.members k h' _ s.members (λ i a b differ e r. r) own);
@@ -369,8 +369,16 @@ pull_cut old new w name partner k j count h p h' s held at there from apart long
     let wide : IsTooLong (errors.VectorFull count) (both m.known n.known) =
     (long.0, λ list form same. long.1 list form (λ g. same g ∙ sym (λ i. both (λ x. stands.vector.covering x i) (λ x. other.vector.covering x i) g))) in (
       w,
-      acts_of_three _ (Unknown name) (Unknown partner) Itself _ _ _ (ap is_some place) (ap is_some beside) apart
-      (k, m, j, n, adopted_from h p, (place, at'), (beside, from'), from_lists w h p m n s.sound stands other,
-          too_wide w _ _ count _ (vector_of_both m.known n.known h.vector p.vector stands.vector other.vector) wide),
+      acts_of_three _ (Unknown name) (Unknown partner) Itself _ _ _ (ap is_some place) (ap is_some beside) apart (
+        k,
+        m,
+        j,
+        n,
+        adopted_from h p,
+        (place, at'),
+        (beside, from'),
+        from_lists w h p m n s.sound stands other,
+        too_wide w _ _ count _ (vector_of_both m.known n.known h.vector p.vector stands.vector other.vector) wide,
+      ),
       same_stands old new w k h h' m s at' stands c is,
     )

@@ -14,7 +14,7 @@ use Rattle.win_order.specs.Order.{Beats, key_lt, key_of}
 use Rattle.win_order.specs.declared.update.Update.{Update}
 use Rattle.dfsr.specs.Pulls.{adopted, is_adopted, outdoes}
 use Rattle.dfsr.specs.Putting.{put_all, put_record}
-use Rattle.dfsr.specs.Records.{Covered, In, IsAdopted, IsBetter, IsHeld, IsRising, IsWinner, Lists, both}
+use Rattle.dfsr.specs.Records.{Covered, In, IsAdopted, IsHeld, IsRising, IsWinner, Lists, both}
 use Rattle.dfsr.specs.Text.{IsVector}
 use Rattle.dfsr.proofs.Keys.{key_cut, key_same, not_below, uid_apart}
 use Rattle.dfsr.proofs.Listing.{above, covered_held, found_held, put_all as put_of_all, put_lists, put_rising, winner_of}
@@ -98,6 +98,7 @@ adopted_lists all K L vector records others one covering own offered = record {
   where
     held : Update → Option Update
     held u = find (λ r. same_uid r.uid u.uid) records
+
     held_is : (u : Update) → IsHeld (Covered all K) u.uid (held u)
     held_is u = found_held all K records u.uid own
 
@@ -122,10 +123,12 @@ put_all_lists P (u ∷ us) records up beaten l =
     old : (v : Update) → P v ⊎ In v us → P v ⊎ ((v ≡ u) ⊎ In v us)
     old v (inl p) = inl p
     old v (inr h) = inr (inr h)
+
     only : (v : Update) → P v ⊎ ((v ≡ u) ⊎ In v us) → (P v ⊎ In v us) ⊎ (v ≡ u)
     only v (inl p) = inl (inl p)
     only v (inr (inl e)) = inr e
     only v (inr (inr h)) = inl (inr h)
+
     lower : (v : Update) → P v ⊎ In v us → v.uid ≡ u.uid → key_lt (key_of v) (key_of u) ≡ true
     lower v (inl p) file = beaten u (inl refl) v p file
     lower v (inr h) file = absurd (uid_apart u.uid v.uid (above u v us up.0 h) (sym file))
@@ -164,10 +167,13 @@ adopts all K L n wins unknown (Some r) h above = record { offered = wins; unknow
 
 -- a winner of what has grown is a winner of what both cover
 union_wins : (all : List Update) (K L : Gvsn → Bool) (w : Update) → IsWinner (Grows all K L) w → IsWinner (Covered all (both K L)) w
-union_wins all K L w h = record { among = grows_to all K L w h.among; unbeaten = λ v c b. elim (or_cases (L v.gvsn) (K v.gvsn) c.1) [
-  | inl theirs ↦ other v c.0 theirs b
-  | inr ours ↦ h.unbeaten v (inl (c.0, ours)) b
-] }
+union_wins all K L w h = record {
+  among = grows_to all K L w h.among;
+  unbeaten = λ v c b. elim (or_cases (L v.gvsn) (K v.gvsn) c.1) [
+    | inl theirs ↦ other v c.0 theirs b
+    | inr ours ↦ h.unbeaten v (inl (c.0, ours)) b
+  ];
+}
   where
     fresh : (n : Update) → IsWinner (Covered all L) n → K n.gvsn ≡ false → Beats n w → (held : Option Update) × IsHeld (Covered all K) n.uid held → ⊥
     fresh n wins unknown beats (None, is) = h.unbeaten n (inr (adopts all K L n wins unknown None is (λ r e. absurd (cc)))) beats
@@ -175,6 +181,7 @@ union_wins all K L w h = record { among = grows_to all K L w h.among; unbeaten =
       | inl above ↦ h.unbeaten n (inr (adopts all K L n wins unknown (Some r) is (λ x e. let same : r ≡ x = cc in subst (λ y. key_lt (key_of y) (key_of n) ≡ true) same above))) beats
       | inr low ↦ h.unbeaten r (inl is.0.among) (record { file = is.1 ∙ beats.file; greater = key_cut (key_of w) (key_of r) (key_of n) beats.greater low })
     ]
+
     other : (v : Update) → In v all → L v.gvsn ≡ true → Beats v w → ⊥
     other v old theirs b =
         let (n, wins, file, low) = covered_held all L v (old, theirs) in
@@ -193,6 +200,7 @@ union_back all K L w h = record { among = elim (bool_cases (K w.gvsn)) [ inl our
       among = (h.among.0, elim (or_cases (L w.gvsn) (K w.gvsn) h.among.1) [ inl t ↦ t | inr f ↦ absurd (cc) ]);
       unbeaten = λ v c b. h.unbeaten v (c.0, or_right (L v.gvsn) (K v.gvsn) c.1) b;
     }
+
     lower : (r : Update) → IsWinner (Covered all K) r → r.uid ≡ w.uid → K w.gvsn ≡ false → key_lt (key_of r) (key_of w) ≡ true
     lower r held file unknown = elim (bool_cases (key_lt (key_of r) (key_of w))) [
       | inl above ↦ above
@@ -201,6 +209,7 @@ union_back all K L w h = record { among = elim (bool_cases (K w.gvsn)) [ inl our
           let known : K w.gvsn ≡ true = ap K (sym same) ∙ held.among.1 in
           absurd (cc)
     ]
+
     theirs : K w.gvsn ≡ false → (held : Option Update) × IsHeld (Covered all K) w.uid held → IsAdopted all K L w
     theirs unknown (None, is) = adopts all K L w (wins unknown) unknown None is (λ r e. absurd (cc))
     theirs unknown (Some r, is) = adopts all K L w (wins unknown) unknown (Some r) is (λ x e. let same : r ≡ x = cc in subst (λ y. key_lt (key_of y) (key_of w) ≡ true) same (lower r is.0 is.1 unknown))
@@ -216,6 +225,7 @@ pulled_lists all K L us records a own =
     to : (v : Update) → Covered all K v ⊎ In v us → Grows all K L v
     to v (inl c) = inl c
     to v (inr h) = inr (a.each v h)
+
     back : (v : Update) → Grows all K L v → Covered all K v ⊎ In v us
     back v (inl c) = inl c
     back v (inr g) = inr (a.whole v g)
@@ -312,14 +322,18 @@ winners_join all K L u = (
     among = elim (or_cases (L u.gvsn) (K u.gvsn) h.among.1) [ inl theirs ↦ inr (lasts_in_other all K L u h theirs) | inr ours ↦ inl (lasts_in all K L u h ours) ];
     unbeaten = λ v either b. h.unbeaten v (covered v either) b;
   }),
-  (λ h. record { among = covered u h.among; unbeaten = λ v c b. elim (or_cases (L v.gvsn) (K v.gvsn) c.1) [
-    | inl theirs ↦ let (n, wins, file, low) = covered_held all L v (c.0, theirs) in h.unbeaten n (inr wins) (above_it v n b file low)
-    | inr ours ↦ let (n, wins, file, low) = covered_held all K v (c.0, ours) in h.unbeaten n (inl wins) (above_it v n b file low)
-  ] }),
+  (λ h. record {
+    among = covered u h.among;
+    unbeaten = λ v c b. elim (or_cases (L v.gvsn) (K v.gvsn) c.1) [
+      | inl theirs ↦ let (n, wins, file, low) = covered_held all L v (c.0, theirs) in h.unbeaten n (inr wins) (above_it v n b file low)
+      | inr ours ↦ let (n, wins, file, low) = covered_held all K v (c.0, ours) in h.unbeaten n (inl wins) (above_it v n b file low)
+    ];
+  }),
 )
   where
     covered : (v : Update) → IsWinner (Covered all K) v ⊎ IsWinner (Covered all L) v → Covered all (both K L) v
     covered v (inl w) = (w.among.0, or_left (L v.gvsn) (K v.gvsn) w.among.1)
     covered v (inr w) = (w.among.0, or_right (L v.gvsn) (K v.gvsn) w.among.1)
+
     above_it : (v n : Update) → Beats v u → n.uid ≡ v.uid → key_lt (key_of n) (key_of v) ≡ false → Beats n u
     above_it v n b file low = record { file = file ∙ b.file; greater = key_cut (key_of u) (key_of n) (key_of v) b.greater low }

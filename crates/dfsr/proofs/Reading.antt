@@ -13,7 +13,7 @@ use Rattle.dfsr.specs.declared.line.Line.TheVariants.{Change, Member, Pull, Show
 use Rattle.dfsr.specs.declared.parse.ParseError.{ParseError}
 use Rattle.dfsr.specs.declared.parse.ParseError.TheVariants.{Bad, Memory}
 use Rattle.dfsr.specs.Grammar.{IsLine, is_member_name, is_path, is_path_byte, is_small_letter, kind_word, spelling, words}
-use Rattle.dfsr.specs.Reading.{Reads, change_at, kind_in, line_of, line_of_four, line_of_three, line_of_two, member_with, number_in, pull_from}
+use Rattle.dfsr.specs.Reading.{Reads, change_at, kind_in, line_of, line_of_four, line_of_three, line_of_two, member_with, number_in}
 use Rattle.dfsr.proofs.Numbers.{number_again, number_spelled, numerals}
 use Rattle.std.specs.Prelude.{decimal, ◌<◌, ◌^◌}
 use Rattle.std.proofs.lemmas.Fmt.{digits_decimal}
@@ -85,6 +85,7 @@ three_takes word name third line e =
   where
     Spells : Line → Type 0
     Spells l = IsLine l × (word ∷ name ∷ third ∷ [] ≡ words l)
+
     by : ((kind : MemberKind) × (is_member_name name ≡ true) × (bytes_eq word (codes "member") ≡ true) × (kind_in third ≡ Some kind) × (line ≡ Member name kind))
         ⊎ ((is_member_name name ≡ true) × (bytes_eq word (codes "pull") ≡ true) × (is_member_name third ≡ true) × (line ≡ Pull name third)) → Spells line
     by (inl (kind, valid, member, found, is)) =

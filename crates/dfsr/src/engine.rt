@@ -174,12 +174,7 @@ impl Engine {
         }
     }
 
-    fn pull(
-        &mut self,
-        alloc: Global,
-        name: &Bytes,
-        partner: &Bytes,
-    ) -> Result<String, AllocError>
+    fn pull(&mut self, alloc: Global, name: &Bytes, partner: &Bytes) -> Result<String, AllocError>
         requires line { IsLine (Line.Pull name.now partner.now) }
         requires room { HasRoom self.old }
         ensures ok { (w : World) → Stands self.old w → IfOk result (λ text. (new : World) × Does w (Line.Pull name.now partner.now) (string_bytes text) new × Stands self.new new) }

@@ -96,3 +96,6 @@ impl Member {
         Ok(())
     }
 }
+
+#[cfg(test)]
+mod tests;

@@ -188,3 +188,4 @@ fn other_words(rt: HostRuntime) -> Result<(), Fail> {
 }
 
 mod changes;
+mod pulls;

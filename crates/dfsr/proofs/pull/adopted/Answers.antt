@@ -1,4 +1,4 @@
-use Rattle.std.proofs.Common.{◌≡◌, ◌+◌, ◌∙◌, [], ◌∷◌, ◌++◌, true, false, take, sym, ap, arith}
+use Rattle.std.proofs.Common.{◌≡◌, ◌+◌, ◌∙◌, [], ◌∷◌, ◌++◌, true, false, take, sym, ap}
 use Rattle.std.proofs.lemmas.List.{take_all, take_more}
 use Rattle.dfsr.specs.Pulls.{adopted, is_adopted}
 use Rattle.dfsr.proofs.Pulling.{one_more_in, one_more_out}

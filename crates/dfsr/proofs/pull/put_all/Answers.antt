@@ -1,4 +1,4 @@
-use Rattle.std.proofs.Common.{◌≡◌, ◌≤◌, ◌<◌, ◌+◌, ◌∙◌, [], ◌∷◌, ◌++◌, length, sym, ap, subst, refl, arith}
+use Rattle.std.proofs.Common.{◌≡◌, ◌≤◌, ◌+◌, ◌∙◌, [], ◌∷◌, ◌++◌, length, sym, ap, subst, refl, arith}
 use Rattle.std.proofs.lemmas.List.{length-append}
 use Rattle.dfsr.specs.Putting.{put_all}
 use Rattle.dfsr.specs.Records.{IsRising}

@@ -16,8 +16,11 @@ returns-then-eq c =
     let is : at ≡ place_for c.args.update.uid rs = c.place_of-at.ensures ∙ ap (place_for c.args.update.uid) c.deref.ensures.value in
     let within : at < length rs = omega (arith, c.args.records.now.ok.0) in
     let tested = c.index.result.now in
-    record { items = put_over c.args.update rs at tested is within
-    (ap (λ r. same_uid r.uid c.args.update.uid) (sym (get_or_read rs at tested within c.index.ensures tested)) ∙ sym c.eq.ensures ∙ c.if-eq.true); capacity = omega arith }
+    record {
+      items = put_over c.args.update rs at tested is within
+          (ap (λ r. same_uid r.uid c.args.update.uid) (sym (get_or_read rs at tested within c.index.ensures tested)) ∙ sym c.eq.ensures ∙ c.if-eq.true);
+      capacity = omega arith;
+    }
 
 pub returns-in-Ok : goal.returns-in-Ok
 returns-in-Ok c =
@@ -25,9 +28,12 @@ returns-in-Ok c =
     let at = c.place_of-at.result in
     let is : at ≡ place_for c.args.update.uid rs = c.place_of-at.ensures ∙ ap (place_for c.args.update.uid) c.deref.ensures.value in
     let within : at ≤ length rs = omega (arith, prefix_len-le-length (λ r. uid_lt r.uid c.args.update.uid) rs, is) in
-    record { items = c.in-Ok.ensures.items ∙ put_between c.args.update rs at c.args.update is within
-    (λ more. elim c.else-at-len.branch as (λ _. same_uid (get_or rs at c.args.update).uid c.args.update.uid ≡ false) [
-      | else-at-len-via-then-at-len+else-eq w ↦
-          ap (λ r. same_uid r.uid c.args.update.uid) (sym (get_or_read rs at w.index.result.now more w.index.ensures c.args.update)) ∙ sym w.eq.ensures ∙ w.if-eq.false
-      | else-at-len-via-else-at-len w ↦ absurd (omega (arith, c.args.records.now.ok.0))
-    ]); capacity = c.in-Ok.ensures.capacity }
+    record {
+      items = c.in-Ok.ensures.items ∙ put_between c.args.update rs at c.args.update is within
+          (λ more. elim c.else-at-len.branch as (λ _. same_uid (get_or rs at c.args.update).uid c.args.update.uid ≡ false) [
+            | else-at-len-via-then-at-len+else-eq w ↦
+                ap (λ r. same_uid r.uid c.args.update.uid) (sym (get_or_read rs at w.index.result.now more w.index.ensures c.args.update)) ∙ sym w.eq.ensures ∙ w.if-eq.false
+            | else-at-len-via-else-at-len w ↦ absurd (omega (arith, c.args.records.now.ok.0))
+          ]);
+      capacity = c.in-Ok.ensures.capacity;
+    }

@@ -1,0 +1,105 @@
+// Scripts whose lines pull.
+use super::expect;
+use crate::status::Status;
+use std::test::Fail;
+
+#[test]
+fn the_first_run(rt: HostRuntime) -> Result<(), Fail> {
+    expect(
+        &rt,
+        rt.alloc(),
+        "member a primary\nmember b plain\nchange a x 100\npull b a\nshow b\n",
+        Status::Done,
+        "ok\nok\nupdate a:9\npulled 1\nvector a:9..10\na:9 a:9 f live root x 2 100 100\n",
+    )
+}
+
+#[test]
+fn pulls_that_are_refused(rt: HostRuntime) -> Result<(), Fail> {
+    expect(
+        &rt,
+        rt.alloc(),
+        "pull a a\nmember a plain\npull a a\npull z a\npull a z\npull z z\npull y z\nshow a\n",
+        Status::Done,
+        "refused 1 unknown a\nok\nrefused 18 self\nrefused 1 unknown z\nrefused 1 unknown z\n\
+         refused 1 unknown z\nrefused 1 unknown y\nvector empty\n",
+    )
+}
+
+#[test]
+fn three_members_round_the_circle(rt: HostRuntime) -> Result<(), Fail> {
+    expect(
+        &rt,
+        rt.alloc(),
+        "member a primary\nmember b plain\nmember c plain\n\
+         change a x 100\nchange b y 50\nchange c z 70\nchange a x 90\n\
+         pull b a\npull c b\npull a c\npull b a\npull c b\npull a c\n\
+         show a\nshow b\nshow c\n",
+        Status::Done,
+        "ok\nok\nok\nupdate a:9\nupdate b:9\nupdate c:9\nupdate a:10\n\
+         pulled 1\npulled 2\npulled 2\npulled 1\npulled 0\npulled 0\n\
+         vector a:9..11 b:9..10 c:9..10\na:9 a:10 f live root x 2 101 100\n\
+         b:9 b:9 f live root y 1 50 50\nc:9 c:9 f live root z 1 70 70\n\
+         vector a:9..11 b:9..10 c:9..10\na:9 a:10 f live root x 2 101 100\n\
+         b:9 b:9 f live root y 1 50 50\nc:9 c:9 f live root z 1 70 70\n\
+         vector a:9..11 b:9..10 c:9..10\na:9 a:10 f live root x 2 101 100\n\
+         b:9 b:9 f live root y 1 50 50\nc:9 c:9 f live root z 1 70 70\n",
+    )
+}
+
+#[test]
+fn a_pull_ends_the_initial_phase(rt: HostRuntime) -> Result<(), Fail> {
+    expect(
+        &rt,
+        rt.alloc(),
+        "member a plain\nmember b plain\nchange a w 4\npull a b\nchange a x 5\nchange b y 6\nshow a\nshow b\n",
+        Status::Done,
+        "ok\nok\nupdate a:9\npulled 0\nupdate a:10\nupdate b:9\n\
+         vector a:9..11\na:9 a:9 f live root w 1 4 4\na:10 a:10 f live root x 3 5 5\n\
+         vector b:9..10\nb:9 b:9 f live root y 1 6 6\n",
+    )
+}
+
+#[test]
+fn a_later_change_takes_the_place_of_the_pulled_one(rt: HostRuntime) -> Result<(), Fail> {
+    expect(
+        &rt,
+        rt.alloc(),
+        "member a primary\nmember b plain\nchange a x 100\npull b a\nchange a x 7\nchange a y 8\npull b a\npull b a\nshow b\n",
+        Status::Done,
+        "ok\nok\nupdate a:9\npulled 1\nupdate a:10\nupdate a:11\npulled 2\npulled 0\n\
+         vector a:9..12\na:9 a:10 f live root x 2 101 100\na:11 a:11 f live root y 2 8 8\n",
+    )
+}
+
+#[test]
+fn an_older_version_is_passed_over(rt: HostRuntime) -> Result<(), Fail> {
+    expect(
+        &rt,
+        rt.alloc(),
+        "member a plain\nmember b plain\nmember c plain\nchange a x 1\npull c a\nchange a x 2\n\
+         pull b a\npull b c\nshow b\nshow c\npull c b\nshow c\n",
+        Status::Done,
+        "ok\nok\nok\nupdate a:9\npulled 1\nupdate a:10\npulled 1\npulled 0\n\
+         vector a:9..11\na:9 a:10 f live root x 1 2 1\n\
+         vector a:9..10\na:9 a:9 f live root x 1 1 1\npulled 1\n\
+         vector a:9..11\na:9 a:10 f live root x 1 2 1\n",
+    )
+}
+
+#[test]
+fn pull_lines_outside_the_grammar(rt: HostRuntime) -> Result<(), Fail> {
+    for text in [
+        "pull\n",
+        "pull a\n",
+        "pull a \n",
+        "pull a B\n",
+        "pull a b c\n",
+        "pull abcdefghi a\n",
+        "pull a abcdefghi\n",
+        "Pull a b\n",
+    ] {
+        expect(&rt, rt.alloc(), text, Status::ScriptBad, "")?;
+    }
+    Ok(())
+}
