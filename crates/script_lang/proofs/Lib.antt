@@ -1,0 +1,6 @@
+pub mod Numbers
+pub mod Paths
+pub mod Values
+pub mod Spaces
+pub mod Lines
+pub mod Rows

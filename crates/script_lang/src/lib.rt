@@ -1,0 +1,17 @@
+//! The lines of a script, both ways.
+//!
+//! Read [`Line`] first. [`parse`] reads the bytes of a script as lines, or says which row is the
+//! first that no line spells; [`print()`] writes the one row that spells a line.
+#![tactic(auto)]
+
+mod errors;
+mod line;
+mod number;
+mod parsing;
+mod path;
+mod reading;
+mod words;
+
+pub use errors::ParseError;
+pub use line::Line;
+pub use parsing::parse;
