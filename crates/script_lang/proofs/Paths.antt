@@ -1,5 +1,6 @@
 -- Paths, component by component.
 use Rattle.std.proofs.Common.{◌≡◌, ◌<◌, ◌≤◌, ◌+◌, ℕ, Bool, true, false, cond, eqb, List, [], ◌∷◌, ◌++◌, length, get_or, take, set, Option, Some, None, refl, sym, ap, ◌∙◌, arith}
+use Rattle.std.specs.Prelude.{count_by}
 use Rattle.std.specs.List.{list_all, slice_split}
 use Rattle.std.proofs.lemmas.Bool.Decides.{nat_tests}
 use Rattle.std.proofs.lemmas.Grind.{take-set_at}
@@ -39,8 +40,12 @@ parts_of word = slice_split (λ b. eqb b 47) word
 pub no_path : (word : List ℕ) → is_path (parts_of word) ≡ false → path_in word ≡ None
 no_path word fails = ap (λ b. cond b (Some (parts_of word)) None) fails
 
-pub path_is : (word : List ℕ) (names : List (List ℕ)) → names ≡ parts_of word → length names ≤ 64 → list_all is_component names ≡ true → path_in word ≡ Some names
-path_is word names are few each =
-    let some : 0 < length names = omega (arith, ap length are, length-slice_split (λ b. eqb b 47) word) in
-    let valid : is_path (parts_of word) ≡ true = ap is_path (sym are) ∙ within_form names some few each in
+-- as many components as slashes, and one
+pub part_count : (word : List ℕ) (slashes : ℕ) → slashes ≡ count_by (λ b. eqb b 47) word → length (parts_of word) ≡ slashes + 1
+part_count word slashes is = length-slice_split (λ b. eqb b 47) word ∙ ap (λ n. n + 1) (sym is)
+
+pub path_is : (word : List ℕ) (names : List (List ℕ)) (slashes : ℕ) → names ≡ parts_of word → slashes ≡ count_by (λ b. eqb b 47) word → slashes < 64 → list_all is_component names ≡ true → path_in word ≡ Some names
+path_is word names slashes are count few each =
+    let all = part_count word slashes count in
+    let valid : is_path (parts_of word) ≡ true = ap is_path (sym are) ∙ within_form names (omega (arith, ap length are, all)) (omega (arith, ap length are, all)) each in
     ap (λ b. cond b (Some (parts_of word)) None) valid ∙ ap Some (sym are)

@@ -1,5 +1,5 @@
 // Paths.
-ghost use Rattle.std.specs.Prelude.{◌≡◌, IfErr, IfOk, take, length, true};
+ghost use Rattle.std.specs.Prelude.{◌==◌, ◌≡◌, IfErr, IfOk, count_by, length, true};
 ghost use Rattle.std.specs.List.{list_all};
 ghost use Rattle.script_lang.specs.Grammar.{is_component, is_path_byte};
 ghost use Rattle.script_lang.specs.Reading.{Reads, path_in};
@@ -44,14 +44,27 @@ fn name_of(alloc: Global, part: &str, units: &mut [u16]) -> Result<Name, RowErro
     }
 }
 
+fn slash_count(word: &str) -> usize
+    ensures { result ≡ count_by (λ b. b == 47) word.now }
+{
+    word.as_bytes()
+        .iter()
+        .filter(|byte| **byte == b'/')
+        .count()
+}
+
 /// The path that a word spells.
 pub fn path_of(alloc: Global, word: &str) -> Result<List<Name>, RowError>
     ensures { Reads result (path_in word.now) }
 {
-    let mut names = Vec::new(alloc);
+    let slashes = slash_count(word);
+    if slashes >= COMPONENTS {
+        return Err(RowError::Bad);
+    }
+    let mut names = Vec::with_capacity(alloc, slashes + 1)?;
     let mut units = [0; CHARACTERS];
     for part in word.split('/') {
-        if names.len() == COMPONENTS || !is_component(part) {
+        if !is_component(part) {
             return Err(RowError::Bad);
         }
         names.push(name_of(alloc, part, &mut units)?)?;
