@@ -4,3 +4,4 @@ pub mod Values
 pub mod Spaces
 pub mod Lines
 pub mod Rows
+pub mod Texts

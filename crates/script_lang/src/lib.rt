@@ -9,9 +9,11 @@ mod line;
 mod number;
 mod parsing;
 mod path;
+mod printing;
 mod reading;
 mod words;
 
 pub use errors::ParseError;
 pub use line::Line;
 pub use parsing::parse;
+pub use printing::print;
