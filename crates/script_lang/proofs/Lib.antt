@@ -5,3 +5,4 @@ pub mod Spaces
 pub mod Lines
 pub mod Rows
 pub mod Texts
+pub mod Scripts

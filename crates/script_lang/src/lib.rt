@@ -5,6 +5,7 @@
 #![tactic(auto)]
 
 mod errors;
+mod laws;
 mod line;
 mod number;
 mod parsing;
@@ -14,6 +15,9 @@ mod reading;
 mod words;
 
 pub use errors::ParseError;
+pub use laws::{
+    first_bad_rows_are_one, scripts_have_no_bad_row, scripts_have_one_list, spellings_are_scripts,
+};
 pub use line::Line;
 pub use parsing::parse;
 pub use printing::print;
