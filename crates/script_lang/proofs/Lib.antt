@@ -3,6 +3,6 @@ pub mod Paths
 pub mod Values
 pub mod Spaces
 pub mod Lines
-pub mod Rows
+pub mod Turns
 pub mod Texts
 pub mod Scripts

@@ -1,15 +1,19 @@
 -- What holds of every script.
-use Rattle.std.proofs.Common.{◌≡◌, ◌≢◌, ◌⊎◌, inl, inr, ◌<◌, ◌≤◌, ◌+◌, ◌-◌, ℕ, zero, suc, Bool, true, false, cond, eqb, List, [], ◌∷◌, length, get_or, take, map, Some, refl, sym, ap, ◌∙◌, subst, arith}
-use Rattle.std.specs.Prelude.{IsUtf8, filter}
+use Rattle.std.proofs.Common.{◌≡◌, ◌≢◌, ◌⊎◌, inl, inr, ◌<◌, ◌≤◌, ◌+◌, ◌-◌, ℕ, zero, suc, Bool, true, false, cond, eqb, List, [], ◌∷◌, ◌++◌, length, get_or, take, drop, map, Option, Some, None, MatchOption, length-append, refl, sym, ap, ◌∙◌, subst, arith}
+use Rattle.std.specs.Prelude.{IsUtf8, count_by, filter, slice_get}
+use Rattle.std.specs.Option.{option_map}
 use Rattle.std.specs.List.{AllByRecursion, slice_split}
 use Rattle.std.proofs.lemmas.Bool.Decides.{nat_tests}
-use Rattle.std.proofs.lemmas.List.{get_or-take, length-take}
-use Rattle.std.proofs.lemmas.List.Elements.{All-cons, All-nil, All-weaker, recursion_from_All}
+use Rattle.std.proofs.lemmas.List.{get_or-take, length-map, length-take, take-map, take-take}
+use Rattle.std.proofs.lemmas.List.Elements.{All-cons, All-nil, All-take, All-weaker, filter-append, recursion_from_All}
 use Rattle.std.proofs.lemmas.List.Splits.{slice_split_none}
+use Rattle.std.proofs.lemmas.List.Sums.{length-filter, sum_by-take-le}
+use Rattle.std.proofs.lemmas.Option.{slice_get-get_or, slice_get-map}
+use Rattle.std.proofs.Math.Seq.{get_or-append_seam, split_at, take-append_seam}
 use Rattle.script_lang.specs.declared.line.Line.{Line}
 use Rattle.script_lang.specs.declared.line.Line.TheVariants.{Member, Put, Fill, Mkdir, Move, Remove, Consume, Change, Pull, Show, Tree, Count}
 use Rattle.script_lang.specs.Grammar.{HasNoLineFeed, IsLine, spelling}
-use Rattle.script_lang.specs.Laws.{FirstBadRowsAreOne, ScriptsHaveNoBadRow, ScriptsHaveOneList, SpellingsAreScripts}
+use Rattle.script_lang.specs.Laws.{FirstBadRowsAreOne, LinesStandInRows, ScriptsHaveNoBadRow, ScriptsHaveOneList, SpellingsAreScripts}
 use Rattle.script_lang.specs.Script.{IsBadRow, IsFirstBad, IsScript, SpellLines, rows, says_something}
 use Rattle.script_lang.proofs.Lines.{line_of, read_again}
 use Rattle.script_lang.proofs.Spaces.{cut}
@@ -113,3 +117,67 @@ first_bad_rows_are_one bytes number other first second =
     let low = not_before bytes number other first second in
     let high = not_before bytes other number second first in
     omega arith
+
+-- ---- each line stands in its row
+
+-- what is mapped to a list, cut at one of its places
+mapped_at : {X : Type 0} (f : X → List ℕ) (xs : List X) (front : List (List ℕ)) (row : List ℕ) (back : List (List ℕ)) → map f xs ≡ front ++ row ∷ back
+    → (front ≡ map f (take (length front) xs)) × MatchOption (slice_get xs (length front)) ⊥ (λ x. row ≡ f x)
+mapped_at {X = X} f xs front row back is = (sym (sym (take-map f (length front) xs) ∙ ap (take (length front)) is ∙ take-append_seam front (row ∷ back)), by (slice_get xs (length front)) at)
+  where
+    at : option_map f (slice_get xs (length front)) ≡ Some row
+    at =
+        sym (slice_get-map f xs (length front)) ∙ ap (λ l. slice_get l (length front)) is
+        ∙ slice_get-get_or (front ++ row ∷ back) (length front) [] (omega (arith, length-append front (row ∷ back)))
+        ∙ ap Some (get_or-append_seam front row back [])
+
+    by : (found : Option X) → option_map f found ≡ Some row → MatchOption found ⊥ (λ x. row ≡ f x)
+    by None e = cc
+    by (Some x) e = cc
+
+-- rows that spell lines, cut at one that says something
+cut_lines : (rs : List (List ℕ)) (lines : List Line) (k index : ℕ) → SpellLines rs lines → k < length rs → says_something (get_or rs k []) ≡ true → count_by says_something (take k rs) ≡ index
+    → MatchOption (slice_get lines index) ⊥ (λ line. get_or rs k [] ≡ spelling line) × SpellLines (take k rs) (take index lines)
+cut_lines rs lines k index spell within says count =
+    let row = get_or rs k [] in
+    let parts : map spelling lines ≡ filter says_something (take k rs) ++ row ∷ filter says_something (drop (suc k) rs) =
+        sym spell.spelled ∙ ap (filter says_something) (split_at rs k [] within)
+        ∙ filter-append says_something (take k rs) (row ∷ drop (suc k) rs)
+        ∙ ap (λ b. filter says_something (take k rs) ++ cond b (row ∷ filter says_something (drop (suc k) rs)) (filter says_something (drop (suc k) rs))) says in
+    let (before, here) = mapped_at spelling lines (filter says_something (take k rs)) row (filter says_something (drop (suc k) rs)) parts in
+    let place : length (filter says_something (take k rs)) ≡ index = length-filter says_something (take k rs) ∙ count in
+    (
+      subst (λ i. MatchOption (slice_get lines i) ⊥ (λ line. row ≡ spelling line)) place here,
+      record {
+        text = All-take IsUtf8 k rs spell.text;
+        valid = All-take IsLine index lines spell.valid;
+        spelled = before ∙ ap (λ i. map spelling (take i lines)) place;
+      },
+    )
+
+-- a row before which fewer rows say something stands among the first
+no_later : (bytes : List ℕ) (count number : ℕ) → count_by says_something (take (number - 1) (rows bytes)) < count_by says_something (take count (rows bytes)) → number ≤ count
+no_later bytes count number fewer = grind (arith, more)
+  where
+    more : count ≤ number - 1 → count_by says_something (take count (rows bytes)) ≤ count_by says_something (take (number - 1) (rows bytes))
+    more le =
+        subst (λ front. count_by says_something front ≤ count_by says_something (take (number - 1) (rows bytes))) (take-take count (number - 1) (rows bytes) le)
+        (sum_by-take-le (λ row. cond (says_something row) 1 0) (take (number - 1) (rows bytes)) count)
+
+pub lines_stand_in_rows : LinesStandInRows
+lines_stand_in_rows bytes count lines index number spell within row =
+    let rs = rows bytes in
+    let spoken : length lines ≡ count_by says_something (take count rs) =
+        sym (length-map lines spelling) ∙ ap length (sym spell.spelled) ∙ length-filter says_something (take count rs) in
+    let early : number ≤ count = no_later bytes count number (subst (λ n. count_by says_something (take (number - 1) rs) < n) spoken (subst (λ n. n < length lines) (sym row.before) within)) in
+    let place : number - 1 < count = omega (arith, row.positive) in
+    let same : get_or (take count rs) (number - 1) [] ≡ get_or rs (number - 1) [] = get_or-take count rs (number - 1) [] place in
+    let front : take (number - 1) (take count rs) ≡ take (number - 1) rs = take-take (number - 1) count rs (omega arith) in
+    let (here, before) = cut_lines (take count rs) lines (number - 1) index spell (omega (arith, row.positive, row.within, length-take count rs)) (ap says_something same ∙ row.says) (ap (count_by says_something) front ∙ row.before) in
+    (
+      early,
+      record {
+        spelled = subst (λ found. MatchOption (slice_get lines index) ⊥ (λ line. found ≡ spelling line)) same here;
+        before = subst (λ found. SpellLines found (take index lines)) front before;
+      },
+    )

@@ -1,8 +1,8 @@
 -- What holds of every script.
-use Rattle.std.specs.Prelude.{◌≡◌, ℕ, List, [], ◌∷◌}
+use Rattle.std.specs.Prelude.{◌≡◌, ◌<◌, ◌≤◌, ℕ, List, [], ◌∷◌, length, take}
 use Rattle.script_lang.specs.declared.line.Line.{Line}
 use Rattle.script_lang.specs.Grammar.{IsLine, spelling}
-use Rattle.script_lang.specs.Script.{IsFirstBad, IsScript}
+use Rattle.script_lang.specs.Script.{IsFirstBad, IsRowOf, IsScript, SpellLines, StandsIn, rows}
 
 -- what a line spells is a script of that line
 abbrev pub SpellingsAreScripts : Type 0
@@ -19,3 +19,8 @@ ScriptsHaveNoBadRow = (bytes : List ℕ) (lines : List Line) (number : ℕ) → 
 -- one row is the first outside the grammar
 abbrev pub FirstBadRowsAreOne : Type 0
 FirstBadRowsAreOne = (bytes : List ℕ) (number other : ℕ) → IsFirstBad bytes number → IsFirstBad bytes other → number ≡ other
+
+-- where first rows spell lines, each line stands in the row of its number
+abbrev pub LinesStandInRows : Type 0
+LinesStandInRows = (bytes : List ℕ) (count : ℕ) (lines : List Line) (index number : ℕ) → SpellLines (take count (rows bytes)) lines → index < length lines → IsRowOf (rows bytes) index number
+    → (number ≤ count) × StandsIn (rows bytes) lines index number

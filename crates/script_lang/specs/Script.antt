@@ -1,5 +1,5 @@
 -- Which bytes are a script, and of which lines.
-use Rattle.std.specs.Prelude.{◌≡◌, ◌≢◌, ◌⊎◌, ◌<◌, ◌≤◌, ◌-◌, ℕ, Bool, true, false, not, ◌==◌, List, [], ◌∷◌, All, IsUtf8, filter, length, map, slice_index_or, take}
+use Rattle.std.specs.Prelude.{◌≡◌, ◌≢◌, ◌⊎◌, ◌<◌, ◌≤◌, ◌-◌, ℕ, Bool, true, false, not, ◌==◌, List, [], ◌∷◌, Option, Some, None, All, IsUtf8, MatchOption, count_by, filter, length, map, slice_get, slice_index_or, take}
 use Rattle.std.specs.List.{slice_split}
 use Rattle.script_lang.specs.declared.line.Line.{Line}
 use Rattle.script_lang.specs.Grammar.{IsLine, spelling}
@@ -33,3 +33,22 @@ pub record IsFirstBad (bytes : List ℕ) (number : ℕ) : Type 0 where
   pub within : number ≤ length (rows bytes)
   pub bad : IsBadRow (slice_index_or (rows bytes) (number - 1) [])
   pub before : (lines : List Line) × SpellLines (take (number - 1) (rows bytes)) lines
+
+-- the lines before the first row outside the grammar, and its number, where there is one
+abbrev pub IsPrefix : List ℕ → List Line → Option ℕ → Type 0
+IsPrefix bytes lines None = IsScript bytes lines
+IsPrefix bytes lines (Some number) = IsFirstBad bytes number × SpellLines (take (number - 1) (rows bytes)) lines
+
+-- ---- where a line stands
+
+-- the row of this number, from 1, says something, and so many rows before it do
+pub record IsRowOf (found : List (List ℕ)) (index number : ℕ) : Type 0 where
+  pub positive : 0 < number
+  pub within : number ≤ length found
+  pub says : says_something (slice_index_or found (number - 1) []) ≡ true
+  pub before : count_by says_something (take (number - 1) found) ≡ index
+
+-- the row of this number spells the line of this index, and those before it spell those before
+pub record StandsIn (found : List (List ℕ)) (lines : List Line) (index number : ℕ) : Type 0 where
+  pub spelled : MatchOption (slice_get lines index) ⊥ (λ line. slice_index_or found (number - 1) [] ≡ spelling line)
+  pub before : SpellLines (take (number - 1) found) (take index lines)

@@ -12,12 +12,14 @@ mod parsing;
 mod path;
 mod printing;
 mod reading;
+mod rows;
 mod words;
 
 pub use errors::ParseError;
 pub use laws::{
-    first_bad_rows_are_one, scripts_have_no_bad_row, scripts_have_one_list, spellings_are_scripts,
+    first_bad_rows_are_one, lines_stand_in_rows, scripts_have_no_bad_row, scripts_have_one_list, spellings_are_scripts,
 };
 pub use line::Line;
-pub use parsing::parse;
+pub use parsing::{Prefix, parse, parse_prefix};
 pub use printing::print;
+pub use rows::row_number;

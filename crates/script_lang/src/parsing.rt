@@ -3,21 +3,22 @@ ghost use Rattle.std.specs.Prelude.{◌≡◌, IfErr, IfOk};
 ghost use Rattle.script_lang.specs.Grammar.{HasNoLineFeed};
 ghost use Rattle.script_lang.specs.Reading.{Judges};
 ghost use Rattle.script_lang.specs.Refusals.{IsRefused};
-ghost use Rattle.script_lang.specs.Script.{IsScript, says_something};
+ghost use Rattle.script_lang.specs.Script.{IsPrefix, IsScript};
 
 use crate::errors::{ParseError, RowError};
 use crate::line::Line;
 use crate::reading::line_of_row;
-use std::alloc::Global;
+use crate::rows::says_something;
+use std::alloc::{AllocError, Global};
 
-/// Whether a row says something: it isn't empty, and doesn't begin with `#`.
-fn says_something(row: &[u8]) -> bool
-    ensures { result ≡ says_something row.now }
-{
-    match row {
-        [] => false,
-        [first, ..] => *first != b'#',
-    }
+/// What bytes give before their first row outside the grammar.
+#[derive(Debug, Drop)]
+pub struct Prefix {
+    /// The lines that the rows before it spell.
+    pub lines: Vec<Line>,
+    /// Its number, from 1, with rows that say nothing counted; or none, where every row is in the
+    /// grammar.
+    pub bad: Option<u64>,
 }
 
 /// The line of a row, if the row says something.
@@ -34,10 +35,9 @@ fn read_row(alloc: Global, row: &[u8]) -> Result<Option<Line>, RowError>
     Ok(Some(line_of_row(alloc, text)?))
 }
 
-/// The lines of a script, or the number of its first row outside the grammar.
-pub fn parse(alloc: Global, text: &[u8]) -> Result<Vec<Line>, ParseError>
-    ensures lines { IfOk result (λ lines. IsScript text.now lines.items) }
-    ensures refused { IfErr result (λ e. IsRefused e text.now) }
+/// The lines of bytes up to their first row outside the grammar.
+pub fn parse_prefix(alloc: Global, text: &[u8]) -> Result<Prefix, AllocError>
+    ensures { IfOk result (λ prefix. IsPrefix text.now prefix.lines.items prefix.bad) }
 {
     let mut lines = Vec::new(alloc);
     let mut number = 0;
@@ -45,12 +45,29 @@ pub fn parse(alloc: Global, text: &[u8]) -> Result<Vec<Line>, ParseError>
         number += 1;
         let found = match read_row(alloc, row) {
             Ok(found) => found,
-            Err(RowError::Bad) => return Err(ParseError::LineBad { number }),
-            Err(RowError::Memory) => return Err(ParseError::Memory),
+            Err(RowError::Bad) => {
+                return Ok(Prefix {
+                    lines,
+                    bad: Some(number),
+                });
+            }
+            Err(RowError::Memory) => return Err(AllocError),
         };
         if let Some(line) = found {
             lines.push(line)?;
         }
     }
-    Ok(lines)
+    Ok(Prefix { lines, bad: None })
+}
+
+/// The lines of a script, or the number of its first row outside the grammar.
+pub fn parse(alloc: Global, text: &[u8]) -> Result<Vec<Line>, ParseError>
+    ensures lines { IfOk result (λ lines. IsScript text.now lines.items) }
+    ensures refused { IfErr result (λ e. IsRefused e text.now) }
+{
+    let Prefix { lines, bad } = parse_prefix(alloc, text)?;
+    match bad {
+        None => Ok(lines),
+        Some(number) => Err(ParseError::LineBad { number }),
+    }
 }

@@ -1,6 +1,6 @@
 use Rattle.std.proofs.Common.{◌≡◌, length, take}
 use Rattle.script_lang.specs.Script.{SpellLines, rows}
-use Rattle.script_lang.proofs.parsing.parse.Given as goal
+use Rattle.script_lang.proofs.parsing.parse_prefix.Given as goal
 
 -- the rows so far spell the lines so far
 abbrev pub invariant-loop-row : goal.invariant-loop-row

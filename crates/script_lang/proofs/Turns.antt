@@ -1,6 +1,6 @@
 -- What the rows so far spell, and the first row outside the grammar.
 use Rattle.std.proofs.Common.{◌≡◌, ◌≢◌, ◌⊎◌, inl, inr, ◌<◌, ◌≤◌, ◌+◌, ◌-◌, ℕ, Bool, true, false, cond, eqb, List, [], ◌∷◌, ◌++◌, length, get_or, take, map, Option, Some, None, Ok, Bor, refl, sym, ap, ◌∙◌, subst, arith, append-nil}
-use Rattle.std.specs.Prelude.{All, IsUtf8, filter, option_to_list}
+use Rattle.std.specs.Prelude.{All, IsUtf8, count_by, filter, option_to_list}
 use Rattle.std.specs.Iterator.{Yields}
 use Rattle.std.specs.List.{AllByRecursion, onto_first, slice_split}
 use Rattle.std.proofs.lemmas.Bool.Decides.{nat_tests}
@@ -8,10 +8,11 @@ use Rattle.std.proofs.lemmas.Iterator.{YieldsList}
 use Rattle.std.proofs.lemmas.Iterator.Consumers.{YieldsList-end, YieldsList-turn}
 use Rattle.std.proofs.lemmas.List.{get_or_default, length_push, map_push, take_all}
 use Rattle.std.proofs.lemmas.List.Elements.{All-cons, All-from_recursion, All-get_or, All-more, All-nil, All-push, All-weaker, filter_more}
+use Rattle.std.proofs.lemmas.List.Sums.{count_by_more_no, count_by_more_yes}
 use Rattle.script_lang.specs.declared.line.Line.{Line}
 use Rattle.script_lang.specs.Grammar.{HasNoLineFeed, IsLine, spelling}
 use Rattle.script_lang.specs.Reading.{Judges}
-use Rattle.script_lang.specs.Script.{IsBadRow, IsFirstBad, SpellLines, rows, says_something}
+use Rattle.script_lang.specs.Script.{IsBadRow, IsFirstBad, IsRowOf, SpellLines, rows, says_something}
 use Rattle.script_lang.proofs.Values.{Lacks}
 
 -- ---- no row has a line feed
@@ -97,3 +98,29 @@ pub row_done : (rs : List (List ℕ)) (xs : List (Bor (List ℕ))) (row : Bor (L
 row_done rs xs row lines more found within at judged so_far is =
     let one : length xs + 1 ≡ length (xs ++ row ∷ []) = sym (length_push xs row) in
     subst (λ k. SpellLines (take k rs) more) one (subst (SpellLines (take (length xs + 1) rs)) (sym is) (row_more rs (length xs) row.now lines found within at judged so_far))
+
+-- ---- a loop that counts the rows that say something
+
+count_more : (rs : List (List ℕ)) (xs : List (Bor (List ℕ))) (row : Bor (List ℕ)) (n m : ℕ) → n ≡ m → m ≡ count_by says_something (take (length xs + 1) rs) → n ≡ count_by says_something (take (length (xs ++ row ∷ [])) rs)
+count_more rs xs row n m is count = is ∙ count ∙ ap (λ k. count_by says_something (take k rs)) (sym (length_push xs row))
+
+-- a row that says something is counted
+pub count_spoken : (rs : List (List ℕ)) (xs : List (Bor (List ℕ))) (row : Bor (List ℕ)) (n : ℕ) → length xs < length rs → says_something (get_or rs (length xs) []) ≡ true → n ≡ count_by says_something (take (length xs) rs)
+    → n + 1 ≡ count_by says_something (take (length (xs ++ row ∷ [])) rs)
+count_spoken rs xs row n within says so_far = count_more rs xs row (n + 1) _ (ap (λ k. k + 1) so_far) (sym (count_by_more_yes says_something rs (length xs) [] within says))
+
+-- a row that says nothing isn't
+pub count_silent : (rs : List (List ℕ)) (xs : List (Bor (List ℕ))) (row : Bor (List ℕ)) (n : ℕ) → length xs < length rs → says_something (get_or rs (length xs) []) ≡ false → n ≡ count_by says_something (take (length xs) rs)
+    → n ≡ count_by says_something (take (length (xs ++ row ∷ [])) rs)
+count_silent rs xs row n within silent so_far = count_more rs xs row n _ so_far (sym (count_by_more_no says_something rs (length xs) [] within silent))
+
+-- the row that the loop is at, by its number
+pub row_is : (rs : List (List ℕ)) (i index number : ℕ) → i < length rs → says_something (get_or rs i []) ≡ true → count_by says_something (take i rs) ≡ index → number ≡ i + 1 → IsRowOf rs index number
+row_is rs i index number within says count is =
+    let place : i ≡ number - 1 = omega arith in
+    record {
+      positive = omega arith;
+      within = omega arith;
+      says = subst (λ k. says_something (get_or rs k []) ≡ true) place says;
+      before = subst (λ k. count_by says_something (take k rs) ≡ index) place count;
+    }
