@@ -141,12 +141,11 @@ cut_lines : (rs : List (List ℕ)) (lines : List Line) (k index : ℕ) → Spell
 cut_lines rs lines k index spell within says count =
     let row = get_or rs k [] in
     let parts : map spelling lines ≡ filter says_something (take k rs) ++ row ∷ filter says_something (drop (suc k) rs) =
-        sym spell.spelled ∙ ap (filter says_something) (split_at rs k [] within)
-        ∙ filter-append says_something (take k rs) (row ∷ drop (suc k) rs)
-        ∙ ap (λ b. filter says_something (take k rs) ++ cond b (row ∷ filter says_something (drop (suc k) rs)) (filter says_something (drop (suc k) rs))) says in
+    sym spell.spelled ∙ ap (filter says_something) (split_at rs k [] within)
+    ∙ filter-append says_something (take k rs) (row ∷ drop (suc k) rs)
+    ∙ ap (λ b. filter says_something (take k rs) ++ cond b (row ∷ filter says_something (drop (suc k) rs)) (filter says_something (drop (suc k) rs))) says in
     let (before, here) = mapped_at spelling lines (filter says_something (take k rs)) row (filter says_something (drop (suc k) rs)) parts in
-    let place : length (filter says_something (take k rs)) ≡ index = length-filter says_something (take k rs) ∙ count in
-    (
+    let place : length (filter says_something (take k rs)) ≡ index = length-filter says_something (take k rs) ∙ count in (
       subst (λ i. MatchOption (slice_get lines i) ⊥ (λ line. row ≡ spelling line)) place here,
       record {
         text = All-take IsUtf8 k rs spell.text;
@@ -168,13 +167,12 @@ pub lines_stand_in_rows : LinesStandInRows
 lines_stand_in_rows bytes count lines index number spell within row =
     let rs = rows bytes in
     let spoken : length lines ≡ count_by says_something (take count rs) =
-        sym (length-map lines spelling) ∙ ap length (sym spell.spelled) ∙ length-filter says_something (take count rs) in
+    sym (length-map lines spelling) ∙ ap length (sym spell.spelled) ∙ length-filter says_something (take count rs) in
     let early : number ≤ count = no_later bytes count number (subst (λ n. count_by says_something (take (number - 1) rs) < n) spoken (subst (λ n. n < length lines) (sym row.before) within)) in
     let place : number - 1 < count = omega (arith, row.positive) in
     let same : get_or (take count rs) (number - 1) [] ≡ get_or rs (number - 1) [] = get_or-take count rs (number - 1) [] place in
     let front : take (number - 1) (take count rs) ≡ take (number - 1) rs = take-take (number - 1) count rs (omega arith) in
-    let (here, before) = cut_lines (take count rs) lines (number - 1) index spell (omega (arith, row.positive, row.within, length-take count rs)) (ap says_something same ∙ row.says) (ap (count_by says_something) front ∙ row.before) in
-    (
+    let (here, before) = cut_lines (take count rs) lines (number - 1) index spell (omega (arith, row.positive, row.within, length-take count rs)) (ap says_something same ∙ row.says) (ap (count_by says_something) front ∙ row.before) in (
       early,
       record {
         spelled = subst (λ found. MatchOption (slice_get lines index) ⊥ (λ line. found ≡ spelling line)) same here;

@@ -17,9 +17,13 @@ mod words;
 
 pub use errors::ParseError;
 pub use laws::{
-    first_bad_rows_are_one, lines_stand_in_rows, scripts_have_no_bad_row, scripts_have_one_list, spellings_are_scripts,
+    first_bad_rows_are_one, lines_stand_in_rows, scripts_have_no_bad_row, scripts_have_one_list,
+    spellings_are_scripts,
 };
 pub use line::Line;
 pub use parsing::{Prefix, parse, parse_prefix};
 pub use printing::print;
 pub use rows::row_number;
+
+#[cfg(test)]
+mod tests;

@@ -47,10 +47,7 @@ fn name_of(alloc: Global, part: &str, units: &mut [u16]) -> Result<Name, RowErro
 fn slash_count(word: &str) -> usize
     ensures { result ≡ count_by (λ b. b == 47) word.now }
 {
-    word.as_bytes()
-        .iter()
-        .filter(|byte| **byte == b'/')
-        .count()
+    word.as_bytes().iter().filter(|byte| **byte == b'/').count()
 }
 
 /// The path that a word spells.

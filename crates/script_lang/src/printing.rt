@@ -81,10 +81,18 @@ pub fn print(alloc: Global, line: &Line) -> Result<String, AllocError>
         }
         Line::Put { name, path, text } => {
             let text = text_of(text.as_slice());
-            format!(in alloc; "put {} {} {text}", name_text(name), path_text(alloc, path)?)
+            format!(in alloc;
+                "put {} {} {text}",
+                name_text(name),
+                path_text(alloc, path)?
+            )
         }
         Line::Fill { name, path, length } => {
-            format!(in alloc; "fill {} {} {length}", name_text(name), path_text(alloc, path)?)
+            format!(in alloc;
+                "fill {} {} {length}",
+                name_text(name),
+                path_text(alloc, path)?
+            )
         }
         Line::Mkdir { name, path } => {
             format!(in alloc; "mkdir {} {}", name_text(name), path_text(alloc, path)?)
@@ -100,7 +108,11 @@ pub fn print(alloc: Global, line: &Line) -> Result<String, AllocError>
             format!(in alloc; "consume {} {moment}", name_text(name))
         }
         Line::Change { name, path, moment } => {
-            format!(in alloc; "change {} {} {moment}", name_text(name), path_text(alloc, path)?)
+            format!(in alloc;
+                "change {} {} {moment}",
+                name_text(name),
+                path_text(alloc, path)?
+            )
         }
         Line::Pull { name, other } => {
             format!(in alloc; "pull {} {}", name_text(name), name_text(other))

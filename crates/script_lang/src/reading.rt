@@ -31,12 +31,7 @@ fn line_of_two(alloc: Global, keyword: Keyword, name: &str) -> Result<Line, RowE
 }
 
 /// The line of three words.
-fn line_of_three(
-    alloc: Global,
-    keyword: Keyword,
-    name: &str,
-    third: &str,
-) -> Result<Line, RowError>
+fn line_of_three(alloc: Global, keyword: Keyword, name: &str, third: &str) -> Result<Line, RowError>
     ensures { Reads result (line_of_three keyword name.now third.now) }
 {
     let name = member_name_of(alloc, name)?;

@@ -27,7 +27,7 @@ returns-in-Err-Bad c =
     let (within, at) = row_at (goal.at.returns-in-Err-Bad c).In-Some in
     let bad : IsBadRow c.in-Some.row.now = subst (λ e. Judges (Err e) c.in-Some.row.now) c.in-Err-Bad.field-0-is c.in-Err-Bad.ensures in
     let first = first_bad c.args.text.now (length c.loop-row.yielded) (c.loop-row.number + 1) c.in-Some.row.now c.loop-row.lines.items
-        (ap (λ n. n + 1) c.loop-row.invariant.count) within at bad c.loop-row.invariant.so_far in
+    (ap (λ n. n + 1) c.loop-row.invariant.count) within at bad c.loop-row.invariant.so_far in
     let place : length c.loop-row.yielded ≡ c.loop-row.number + 1 - 1 = omega (arith, c.loop-row.invariant.count) in
     (first, subst (λ k. SpellLines (take k (rows c.args.text.now)) c.loop-row.lines.items) place c.loop-row.invariant.so_far)
 
@@ -56,6 +56,6 @@ loop-row-preserved c =
 pub returns : goal.returns
 returns c =
     let all = rows_end c.loop-row.yielded _ c.loop-row.yielded_by _ _ c.in-None.is c.next.ensures.steps
-        (YieldsList-at c.into_iter-row-iterator.ensures.into_iter_gives
-        (YieldsList-from_slice_split _ (λ b. eqb b 10) c.args.text.now c.split-row-items.ensures.rest c.split-row-items.ensures.done c.split-row-items.ensures.closure (λ x b q h. search rules))) in
+    (YieldsList-at c.into_iter-row-iterator.ensures.into_iter_gives
+    (YieldsList-from_slice_split _ (λ b. eqb b 10) c.args.text.now c.split-row-items.ensures.rest c.split-row-items.ensures.done c.split-row-items.ensures.closure (λ x b q h. search rules))) in
     subst (λ rs. SpellLines rs c.loop-row.lines.items) all c.loop-row.invariant.so_far

@@ -49,6 +49,6 @@ loop-row-preserved c =
 pub returns : goal.returns
 returns c =
     let all = rows_end c.loop-row.yielded _ c.loop-row.yielded_by _ _ c.in-None.is c.next.ensures.steps
-        (YieldsList-at c.into_iter-row-iterator.ensures.into_iter_gives
-        (YieldsList-from_slice_split _ (λ b. eqb b 10) c.args.text.now c.split-row-items.ensures.rest c.split-row-items.ensures.done c.split-row-items.ensures.closure (λ x b q h. search rules))) in
+    (YieldsList-at c.into_iter-row-iterator.ensures.into_iter_gives
+    (YieldsList-from_slice_split _ (λ b. eqb b 10) c.args.text.now c.split-row-items.ensures.rest c.split-row-items.ensures.done c.split-row-items.ensures.closure (λ x b q h. search rules))) in
     omega (arith, c.loop-row.invariant.count, c.loop-row.invariant.early, ap (count_by says_something) all)
