@@ -1,8 +1,8 @@
 -- What holds of every script.
-use Rattle.std.proofs.Common.{◌≡◌, ◌≢◌, ◌⊎◌, inl, inr, ◌<◌, ◌≤◌, ◌+◌, ◌-◌, ℕ, zero, suc, Bool, true, false, cond, eqb, List, [], ◌∷◌, ◌++◌, length, get_or, take, drop, map, Option, Some, None, MatchOption, length-append, refl, sym, ap, ◌∙◌, subst, arith}
+use Rattle.std.proofs.Common.{◌≡◌, ◌≢◌, inl, inr, ◌<◌, ◌≤◌, ◌-◌, ℕ, zero, suc, Bool, true, false, cond, eqb, List, [], ◌∷◌, ◌++◌, length, get_or, take, drop, map, Option, Some, None, MatchOption, length-append, refl, sym, ap, ◌∙◌, subst, arith}
 use Rattle.std.specs.Prelude.{IsUtf8, count_by, filter, slice_get}
 use Rattle.std.specs.Option.{option_map}
-use Rattle.std.specs.List.{AllByRecursion, slice_split}
+use Rattle.std.specs.List.{AllByRecursion}
 use Rattle.std.proofs.lemmas.Bool.Decides.{nat_tests}
 use Rattle.std.proofs.lemmas.List.{get_or-take, length-map, length-take, take-map, take-take}
 use Rattle.std.proofs.lemmas.List.Elements.{All-cons, All-nil, All-take, All-weaker, filter-append, recursion_from_All}
@@ -14,7 +14,7 @@ use Rattle.script_lang.specs.declared.line.Line.{Line}
 use Rattle.script_lang.specs.declared.line.Line.TheVariants.{Member, Put, Fill, Mkdir, Move, Remove, Consume, Change, Pull, Show, Tree, Count}
 use Rattle.script_lang.specs.Grammar.{HasNoLineFeed, IsLine, spelling}
 use Rattle.script_lang.specs.Laws.{FirstBadRowsAreOne, LinesStandInRows, ScriptsHaveNoBadRow, ScriptsHaveOneList, SpellingsAreScripts}
-use Rattle.script_lang.specs.Script.{IsBadRow, IsFirstBad, IsScript, SpellLines, rows, says_something}
+use Rattle.script_lang.specs.Script.{IsBadRow, IsFirstBad, SpellLines, rows, says_something}
 use Rattle.script_lang.proofs.Lines.{line_of, read_again}
 use Rattle.script_lang.proofs.Spaces.{cut}
 use Rattle.script_lang.proofs.Texts.{spelling_is_text}

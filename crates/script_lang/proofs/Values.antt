@@ -1,5 +1,5 @@
 -- Each value is read from its own word, and from no other.
-use Rattle.std.proofs.Common.{◌≡◌, ◌≢◌, ◌<◌, ℕ, Bool, true, false, cond, ◌&&◌, eqb, List, [], ◌∷◌, length, get_or, Option, Some, None, refl, sym, ap, ◌∙◌, arith, codes, bytes_eq}
+use Rattle.std.proofs.Common.{◌≡◌, ℕ, Bool, true, false, cond, ◌&&◌, eqb, List, [], ◌∷◌, Option, Some, None, refl, sym, ap, ◌∙◌, arith, codes, bytes_eq}
 use Rattle.std.specs.List.{AllByRecursion, join_with_byte, list_all, slice_split}
 use Rattle.std.proofs.lemmas.Bool.Decides.{nat_tests}
 use Rattle.std.proofs.lemmas.List.Elements.{All-from_get_or}
@@ -12,7 +12,7 @@ use Rattle.frs_base.specs.declared.kind.MemberKind.{MemberKind}
 use Rattle.frs_base.specs.declared.kind.MemberKind.TheVariants.{Primary, Plain}
 use Rattle.script_lang.specs.declared.words.Keyword.{Keyword}
 use Rattle.script_lang.specs.declared.words.Keyword.TheVariants as keyword
-use Rattle.script_lang.specs.Grammar.{is_component, is_member_name, is_path, is_path_byte, is_small_letter, kind_word, path_word}
+use Rattle.script_lang.specs.Grammar.{is_component, is_member_name, is_path, is_path_byte, kind_word, path_word}
 use Rattle.script_lang.specs.Reading.{keyword_in, kind_in, name_in, path_in}
 
 same : (a b : List ℕ) → bytes_eq a b ≡ true → a ≡ b

@@ -22,8 +22,11 @@ pub fn number_of(word: &str, limit: u64) -> Result<u64, RowError>
     if !begins_number(word) {
         return Err(RowError::Bad);
     }
-    match word.parse::<u64>() {
-        Ok(number) if number < limit => Ok(number),
-        _ => Err(RowError::Bad),
+    let Ok(number) = word.parse::<u64>() else {
+        return Err(RowError::Bad);
+    };
+    if number >= limit {
+        return Err(RowError::Bad);
     }
+    Ok(number)
 }

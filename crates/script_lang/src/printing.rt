@@ -1,6 +1,6 @@
 // From a line to the row that spells it.
-ghost use Rattle.std.specs.Prelude.{◌++◌, ◌∷◌, ◌≡◌, IfOk, IsUtf8, OnOk, string_bytes, true};
-ghost use Rattle.std.specs.List.{flat_map, list_all};
+ghost use Rattle.std.specs.Prelude.{[], ◌++◌, ◌∷◌, ◌≡◌, IfOk, IsUtf8, OnOk, string_bytes, true};
+ghost use Rattle.std.specs.List.{flat_map, join_with_byte, list_all};
 ghost use Rattle.script_lang.specs.Grammar.{IsLine, is_component, is_member_name, is_path, kind_word, path_word, spelling};
 
 use crate::line::Line;
@@ -68,6 +68,33 @@ fn path_text(alloc: Global, path: &List<Name>) -> Result<String, AllocError>
     Ok(text)
 }
 
+fn two_words(alloc: Global, word: &str, name: &Bytes) -> Result<String, AllocError>
+    requires { is_member_name name.now ≡ true }
+    ensures { IfOk result (λ text. string_bytes text ≡ join_with_byte 32 (word.now ∷ name.now ∷ [])) }
+{
+    format!(in alloc; "{word} {}", name_text(name))
+}
+
+fn three_words(alloc: Global, word: &str, name: &Bytes, third: &str) -> Result<String, AllocError>
+    requires { is_member_name name.now ≡ true }
+    ensures { IfOk result (λ text. string_bytes text ≡ join_with_byte 32 (word.now ∷ name.now ∷ third.now ∷ [])) }
+{
+    format!(in alloc; "{word} {} {third}", name_text(name))
+}
+
+fn four_words(
+    alloc: Global,
+    word: &str,
+    name: &Bytes,
+    third: &str,
+    last: &str,
+) -> Result<String, AllocError>
+    requires { is_member_name name.now ≡ true }
+    ensures { IfOk result (λ text. string_bytes text ≡ join_with_byte 32 (word.now ∷ name.now ∷ third.now ∷ last.now ∷ [])) }
+{
+    format!(in alloc; "{word} {} {third} {last}", name_text(name))
+}
+
 /// The row that spells a line, without a line feed.
 ///
 /// The line's values must be in the form that [`Line`] tells.
@@ -76,49 +103,31 @@ pub fn print(alloc: Global, line: &Line) -> Result<String, AllocError>
     ensures { IfOk result (λ text. string_bytes text ≡ spelling line.now) }
 {
     match line {
-        Line::Member { name, kind } => {
-            format!(in alloc; "member {} {}", name_text(name), kind_text(*kind))
-        }
+        Line::Member { name, kind } => three_words(alloc, "member", name, kind_text(*kind)),
         Line::Put { name, path, text } => {
-            let text = text_of(text.as_slice());
-            format!(in alloc;
-                "put {} {} {text}",
-                name_text(name),
-                path_text(alloc, path)?
-            )
+            let path = path_text(alloc, path)?;
+            four_words(alloc, "put", name, &path, text_of(text.as_slice()))
         }
         Line::Fill { name, path, length } => {
-            format!(in alloc;
-                "fill {} {} {length}",
-                name_text(name),
-                path_text(alloc, path)?
-            )
+            let path = path_text(alloc, path)?;
+            four_words(alloc, "fill", name, &path, &length.to_string(alloc)?)
         }
-        Line::Mkdir { name, path } => {
-            format!(in alloc; "mkdir {} {}", name_text(name), path_text(alloc, path)?)
-        }
+        Line::Mkdir { name, path } => three_words(alloc, "mkdir", name, &path_text(alloc, path)?),
         Line::Move { name, from, to } => {
             let from = path_text(alloc, from)?;
-            format!(in alloc; "move {} {from} {}", name_text(name), path_text(alloc, to)?)
+            four_words(alloc, "move", name, &from, &path_text(alloc, to)?)
         }
-        Line::Remove { name, path } => {
-            format!(in alloc; "remove {} {}", name_text(name), path_text(alloc, path)?)
-        }
+        Line::Remove { name, path } => three_words(alloc, "remove", name, &path_text(alloc, path)?),
         Line::Consume { name, moment } => {
-            format!(in alloc; "consume {} {moment}", name_text(name))
+            three_words(alloc, "consume", name, &moment.to_string(alloc)?)
         }
         Line::Change { name, path, moment } => {
-            format!(in alloc;
-                "change {} {} {moment}",
-                name_text(name),
-                path_text(alloc, path)?
-            )
+            let path = path_text(alloc, path)?;
+            four_words(alloc, "change", name, &path, &moment.to_string(alloc)?)
         }
-        Line::Pull { name, other } => {
-            format!(in alloc; "pull {} {}", name_text(name), name_text(other))
-        }
-        Line::Show { name } => format!(in alloc; "show {}", name_text(name)),
-        Line::Tree { name } => format!(in alloc; "tree {}", name_text(name)),
-        Line::Count { name } => format!(in alloc; "count {}", name_text(name)),
+        Line::Pull { name, other } => three_words(alloc, "pull", name, name_text(other)),
+        Line::Show { name } => two_words(alloc, "show", name),
+        Line::Tree { name } => two_words(alloc, "tree", name),
+        Line::Count { name } => two_words(alloc, "count", name),
     }
 }

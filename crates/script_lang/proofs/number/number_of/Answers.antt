@@ -12,13 +12,13 @@ returns-then-not-begins_number c =
     let says = c.begins_number.ensures in
     cc)
 
-pub returns-in-Ok : goal.returns-in-Ok
-returns-in-Ok c =
-    let (small, is) = parsed c.args.word.now c.in-Ok.number c.parse.result (sym c.begins_number.ensures ∙ c.if-not-begins_number.false) c.parse.ensures.value.0 c.in-Ok.is in
-    ap (number_in c.args.limit) is ∙ number_again c.args.limit c.in-Ok.number c.if-number-limit.true (omega arith)
-
-pub returns-in_default-2 : goal.returns-in_default-2
-returns-in_default-2 c = no_number c.args.limit c.args.word.now (λ n below is.
+pub returns-in_default : goal.returns-in_default
+returns-in_default c = no_number c.args.limit c.args.word.now (λ n below is.
     let ok = parses_decimal c.args.word.now n c.parse.result (omega arith) is c.parse.ensures.value.0 in
     let err = c.in_default.is in
     cc)
+
+pub returns : goal.returns
+returns c =
+    let (small, is) = parsed c.args.word.now c.in-Ok.number c.parse.result (sym c.begins_number.ensures ∙ c.if-not-begins_number.false) c.parse.ensures.value.0 c.in-Ok.is in
+    ap (number_in c.args.limit) is ∙ number_again c.args.limit c.in-Ok.number c.if-number-limit.false (omega arith)

@@ -1,4 +1,4 @@
-use Rattle.std.proofs.Common.{◌∙◌, ◌++◌, sym, ap}
+use Rattle.std.proofs.Common.{◌∙◌, ◌++◌, ap}
 use Rattle.std.specs.List.{flat_map}
 use Rattle.std.proofs.Common.{◌-◌, ◌∷◌, length, take, drop}
 use Rattle.script_lang.specs.Grammar.{path_word}
