@@ -2,6 +2,9 @@
 //!
 //! Read [`Line`] first. [`parse`] reads the bytes of a script as lines, or says which row is the
 //! first that no line spells; [`print()`] writes the one row that spells a line.
+//!
+//! [`parse_prefix`] and [`row_number`] are for a program that does only some of the lines: they
+//! give the lines before the first bad row, and the row that a line stands in.
 #![tactic(auto)]
 
 mod errors;
