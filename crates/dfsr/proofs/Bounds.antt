@@ -1,6 +1,6 @@
 -- No number grows by more than one a line.
-use Rattle.std.proofs.Common.{◌≡◌, ◌<◌, ◌+◌, ◌^◌, ℕ, zero, suc, Bool, true, false, cond, List, [], ◌∷◌, ◌++◌, set, refl, sym, subst, Option, Some, None, All, arith}
-use Rattle.std.specs.Prelude.{IfSome, find, slice_get}
+use Rattle.std.proofs.Common.{◌≡◌, ◌<◌, ◌+◌, ◌^◌, ℕ, zero, suc, List, [], ◌∷◌, ◌++◌, set, refl, sym, subst, Option, Some, None, All, arith}
+use Rattle.std.specs.Prelude.{IfSome, slice_get}
 use Rattle.std.specs.List.{AllByRecursion}
 use Rattle.std.proofs.lemmas.List.Elements.{All-from_recursion, All-push, All-set, All-weaker, recursion_from_All}
 use Rattle.frs_base.specs.declared.kind.MemberKind.{MemberKind}
@@ -13,7 +13,7 @@ use Rattle.dfsr.specs.Records.{IsRising}
 use Rattle.dfsr.specs.Standing.{HasRoom, IsSmall, IsWithin}
 use Rattle.dfsr.specs.declared.engine.Engine.{Engine}
 use Rattle.dfsr.specs.declared.member.Member.{Member}
-use Rattle.dfsr.proofs.Listing.{put_all, put_rising}
+use Rattle.dfsr.proofs.Listing.{find_all, put_all, put_rising}
 use Rattle.dfsr.proofs.Pulling.{adopted_all, put_all_all, put_all_rising}
 
 -- a clock below 2^61 and so many lines
@@ -22,14 +22,6 @@ IsEarly n u = u.clock < 2 ^ 61 + n
 
 early_later : (n : ℕ) (records : List Update) → All (IsEarly n) records → All (IsEarly (n + 1)) records
 early_later n records a = All-weaker (IsEarly n) (IsEarly (n + 1)) (λ r early. omega arith) records a
-
-find_all : (P : Update → Type 0) (p : Update → Bool) (xs : List Update) → AllByRecursion P xs → IfSome (find p xs) P
-find_all P p [] a = tt
-find_all P p (x ∷ xs) a = by (p x) (find_all P p xs a.1)
-  where
-    by : (b : Bool) → IfSome (find p xs) P → IfSome (cond b (Some x) (find p xs)) P
-    by true rest = a.0
-    by false rest = rest
 
 clock_small : (n moment : ℕ) (held : Option Update) → moment < 2 ^ 61 → IfSome held (IsEarly n) → clock_of moment held < 2 ^ 61 + (n + 1)
 clock_small n moment None low early = omega arith

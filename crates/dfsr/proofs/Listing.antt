@@ -1,6 +1,6 @@
 -- Lists of updates in order of their files.
 use Rattle.std.proofs.Common.{◌≡◌, ◌≢◌, ◌⊎◌, Bool, true, false, cond, List, [], ◌∷◌, refl, sym, ap, ◌∙◌, subst, inl, inr, Option, Some, None}
-use Rattle.std.specs.Prelude.{MatchOption, find}
+use Rattle.std.specs.Prelude.{IfSome, MatchOption, find}
 use Rattle.std.specs.List.{AllByRecursion}
 use Rattle.frs_base.specs.Versions.{same_uid, uid_lt}
 use Rattle.frs_base.specs.declared.version.Gvsn.{Gvsn}
@@ -159,6 +159,15 @@ find_in (s ∷ rs) uid r e = by (same_uid s.uid uid) refl e (find_in rs uid r)
     by : (b : Bool) → same_uid s.uid uid ≡ b → cond b (Some s) (find (λ x. same_uid x.uid uid) rs) ≡ Some r → (find (λ x. same_uid x.uid uid) rs ≡ Some r → In r rs × (r.uid ≡ uid)) → In r (s ∷ rs) × (r.uid ≡ uid)
     by true t q k = let same : s ≡ r = cc in (inl (sym same), ap (λ x. x.uid) (sym same) ∙ same_uid_is s.uid uid t)
     by false t q k = let (h, u) = k q in (inr h, u)
+
+-- what holds of all holds of the one found
+pub find_all : (P : Update → Type 0) (p : Update → Bool) (xs : List Update) → AllByRecursion P xs → IfSome (find p xs) P
+find_all P p [] a = tt
+find_all P p (x ∷ xs) a = by (p x) (find_all P p xs a.1)
+  where
+    by : (b : Bool) → IfSome (find p xs) P → IfSome (cond b (Some x) (find p xs)) P
+    by true rest = a.0
+    by false rest = rest
 
 -- ---- each file of what is covered has a winner
 

@@ -1,10 +1,10 @@
 // A change of a member's own file.
-ghost use Rattle.std.specs.Prelude.{◌≡◌, ◌<◌, ◌^◌, ◌++◌, All, IfErr, IfOk, IfSome, OnErr, OnOk, option_to_list, vec_capacity, vec_len};
+ghost use Rattle.std.specs.Prelude.{◌≡◌, ◌<◌, ◌^◌, ◌∷◌, ◌++◌, [], All, IfErr, IfOk, IfSome, OnErr, OnOk, option_map, option_to_list, unwrap_or, vec_capacity, vec_len};
 ghost use Rattle.std.specs.Option.{option_copied};
 ghost use Rattle.frs_base.specs.Names.{matches};
 ghost use Rattle.version_vector.specs.Limits.{IsTooLong};
 ghost use Rattle.version_vector.specs.Versions.{covers};
-ghost use Rattle.dfsr.specs.Change.{base_of, born_of, file_of, file_update, name_of, new_file};
+ghost use Rattle.dfsr.specs.Change.{base_of, file_of, file_update};
 ghost use Rattle.dfsr.specs.Records.{IsRising, plus};
 
 use crate::member::{Member, OwnFile};
@@ -34,21 +34,21 @@ fn file_of<'a>(files: &'a [OwnFile], path: &Name) -> Option<&'a OwnFile>
     files.iter().find(|f| f.name.matches(path))
 }
 
-/// The version at which the file at a path was born, which is the next one where none is there.
-fn born_of(files: &[OwnFile], next: u64, path: &Name) -> u64
-    ensures { result ≡ born_of files.now next path.now }
+/// The version at which a file was born, which is the next one where there is none.
+fn born_of(file: Option<&OwnFile>, next: u64) -> u64
+    ensures { result ≡ unwrap_or (option_map (λ f. f.born) (option_copied file.entry)) next }
 {
-    match file_of(files, path) {
+    match file {
         Some(file) => file.born,
         None => next,
     }
 }
 
-/// The name of the file at a path, as it was first spelled.
-fn name_of(alloc: Global, files: &[OwnFile], path: &Name) -> Result<Name, AllocError>
-    ensures { IfOk result (λ name. name ≡ name_of files.now path.now) }
+/// The name of a file, as it was first spelled, or the path where there is none.
+fn name_of(alloc: Global, file: Option<&OwnFile>, path: &Name) -> Result<Name, AllocError>
+    ensures { IfOk result (λ name. name ≡ unwrap_or (option_map (λ f. f.name) (option_copied file.entry)) path.now) }
 {
-    match file_of(files, path) {
+    match file {
         Some(file) => file.name.copy(alloc),
         None => path.copy(alloc),
     }
@@ -57,13 +57,13 @@ fn name_of(alloc: Global, files: &[OwnFile], path: &Name) -> Result<Name, AllocE
 /// The file that a change at a path makes, where none is there.
 fn new_file(
     alloc: Global,
-    files: &[OwnFile],
+    file: Option<&OwnFile>,
     next: u64,
     path: &Name,
 ) -> Result<Option<OwnFile>, AllocError>
-    ensures { IfOk result (λ file. option_to_list file ≡ new_file files.now next path.now) }
+    ensures { IfOk result (λ made. option_to_list made ≡ unwrap_or (option_map (λ f. []) (option_copied file.entry)) (record { name = path.now; born = next } ∷ [])) }
 {
-    match file_of(files, path) {
+    match file {
         Some(_) => Ok(None),
         None => Ok(Some(OwnFile {
             name: path.copy(alloc)?,
@@ -140,8 +140,10 @@ impl Member {
         ensures full { IfErr result (λ e. IsTooLong e (plus (covers self.old.vector) (record { db = db; version = self.old.next }))) }
         ensures err { OnErr result (IsUnchanged self.old self.new) }
     {
-        let born = born_of(&self.files, self.next, path);
-        let name = name_of(alloc, &self.files, path)?;
+        let found = file_of(&self.files, path);
+        let born = born_of(found, self.next);
+        let name = name_of(alloc, found, path)?;
+        let file = new_file(alloc, found, self.next, path)?;
         let uid = Uid { db, version: born };
         let update = file_update(
             db,
@@ -152,7 +154,6 @@ impl Member {
             moment,
             held(&self.records, uid),
         );
-        let file = new_file(alloc, &self.files, self.next, path)?;
         self.files.reserve(1)?;
         self.records.reserve(1)?;
         self.vector.add(alloc, update.gvsn)?;

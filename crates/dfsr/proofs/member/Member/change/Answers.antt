@@ -1,29 +1,21 @@
-use Rattle.std.proofs.Common.{◌≡◌, ◌∙◌, ◌<◌, ◌^◌, ◌++◌, refl, ap, Bool, true, false, cond, List, [], ◌∷◌, sym, subst, Some, All}
-use Rattle.std.specs.Prelude.{IfSome, find, option_to_list, ◌||◌}
+use Rattle.std.proofs.Common.{◌≡◌, ◌∙◌, ◌<◌, ◌^◌, ◌++◌, refl, ap, sym, subst, All}
+use Rattle.std.specs.Prelude.{IfSome, [], ◌∷◌, find, option_map, option_to_list, unwrap_or, ◌||◌}
 use Rattle.std.specs.Option.{option_copied}
 use Rattle.frs_base.specs.Versions.{same_gvsn, same_uid}
 use Rattle.version_vector.specs.Versions.{covers}
-use Rattle.dfsr.specs.Change.{born_of, file_update, name_of, new_file}
+use Rattle.dfsr.specs.Change.{born_of, file_of, file_update, name_of, new_file}
 use Rattle.dfsr.specs.Changes.{made_by}
 use Rattle.dfsr.specs.Putting.{put_record}
-use Rattle.std.specs.List.{AllByRecursion}
 use Rattle.std.proofs.lemmas.List.Elements.{recursion_from_All}
 use Rattle.win_order.specs.declared.update.Update.{Update}
+use Rattle.dfsr.proofs.Listing.{find_all}
 use Rattle.dfsr.proofs.member.Member.change.Goals as goal
-
-found_has : {X : Type 0} (P : X → Type 0) (p : X → Bool) (xs : List X) → AllByRecursion P xs → IfSome (find p xs) P
-found_has P p [] a = tt
-found_has P p (x ∷ xs) a = by (p x) (found_has P p xs a.1)
-  where
-    by : (b : Bool) → IfSome (find p xs) P → IfSome (cond b (Some x) (find p xs)) P
-    by true rest = a.0
-    by false rest = rest
 
 pub file_update-update-requires : goal.file_update-update-requires
 file_update-update-requires c =
     let IsLow : Update → Type 0 = λ u. u.clock < 2 ^ 62 in
     subst (λ o. IfSome o IsLow) (sym c.held.ensures)
-    (found_has IsLow _ c.deref-3.result.now (recursion_from_All IsLow _ (subst (All IsLow) (sym c.deref-3.ensures.value) c.requires.clocks)))
+    (find_all IsLow _ c.deref-2.result.now (recursion_from_All IsLow _ (subst (All IsLow) (sym c.deref-2.ensures.value) c.requires.clocks)))
 
 pub returns-clause-ok : goal.returns-clause-ok
 returns-clause-ok c =
@@ -31,13 +23,14 @@ returns-clause-ok c =
     let records = c.args.self.now.records.items in
     let next = c.args.self.now.next in
     let path = c.args.path.now in
-    let born : c.born_of-born.result ≡ born_of files next path = c.born_of-born.ensures ∙ ap (λ l. born_of l next path) c.deref.ensures.value in
-    let name : c.in_ok-name.name ≡ name_of files path = c.in_ok-name.ensures ∙ ap (λ l. name_of l path) c.deref-2.ensures.value in
+    let found : option_copied c.file_of-found.result ≡ file_of files path = c.file_of-found.ensures ∙ ap (λ l. file_of l path) c.deref.ensures.value in
+    let born : c.born_of-born.result ≡ born_of files next path = c.born_of-born.ensures ∙ ap (λ o. unwrap_or (option_map (λ f. f.born) o) next) found in
+    let name : c.in_ok-name.name ≡ name_of files path = c.in_ok-name.ensures ∙ ap (λ o. unwrap_or (option_map (λ f. f.name) o) path) found in
     let held : option_copied c.held.result ≡ find (λ r. same_uid r.uid (record { db = c.args.db; version = born_of files next path })) records =
-    c.held.ensures ∙ (λ i. find (λ r. same_uid r.uid (record { db = c.args.db; version = born i })) (c.deref-3.ensures.value i)) in
+    c.held.ensures ∙ (λ i. find (λ r. same_uid r.uid (record { db = c.args.db; version = born i })) (c.deref-2.ensures.value i)) in
     let update : c.file_update-update.result ≡ made_by c.args.self.now c.args.db path c.args.moment =
     c.file_update-update.ensures ∙ (λ i. file_update c.args.db next (born i) (name i) (c.base_of.ensures i) c.args.moment (held i)) in
-    let file : option_to_list c.in_ok-file.file ≡ new_file files next path = c.in_ok-file.ensures ∙ ap (λ l. new_file l next path) c.deref-4.ensures.value in
+    let file : option_to_list c.in_ok-file.file ≡ new_file files next path = c.in_ok-file.ensures ∙ ap (λ o. unwrap_or (option_map (λ f. []) o) (record { name = path; born = next } ∷ [])) found in
     record {
       name = refl;
       kind = refl;
