@@ -1,0 +1,12 @@
+mod Climbing
+mod Lookups
+mod Bounds
+mod Edits
+mod Runs
+mod Trees
+mod Tops
+mod Volumes
+mod Kept
+mod Reaching
+mod Resolving
+mod Replicas

@@ -1,0 +1,214 @@
+// The objects of a volume, in order of their numbers.
+ghost use Rattle.std.specs.Prelude.{◌≡◌, ◌==◌, ◌<◌, ◌∷◌, ◌++◌, [], OnOk, option_copied, find, position};
+ghost use Rattle.frs_base.specs.Versions.{same_uid};
+ghost use Rattle.vol_state.specs.Rows.{items_of, room_of};
+ghost use Rattle.vol_state.specs.Places.{child, has_children, is_child, object_at};
+ghost use Rattle.vol_state.specs.Tree.{IsTree};
+ghost use Rattle.vol_state.specs.State.{uid_of};
+ghost use Rattle.vol_state.specs.Effects.{at_place, edit, stamp, with_bytes, without};
+
+use crate::Object;
+use crate::rows::{items, push_reserved, reserve_one};
+use frs_base::{Bytes, Guid, Name, Sum, Uid};
+use std::alloc::{AllocError, Global};
+use std::marker::Model;
+
+/// Objects that are a tree: each place leads to the root or to limbo, and matching names in one
+/// directory are one object.
+///
+/// A contract sees the objects, and for how many more there is room.
+#[derive(Drop)]
+pub(crate) struct Shelf {
+    objects: Option<Vec<Object>>,
+}
+
+impl Model for Shelf {
+    ghost use Rattle.vol_state.specs.Rows.{items_of, room_of};
+    ghost use Rattle.vol_state.specs.Seen.{Shelved};
+    ghost use Rattle.vol_state.specs.Tree.{IsTree};
+
+    ghost Value = { Shelved };
+
+    ghost view = { λ shelf. record { items = items_of shelf.objects; room = room_of shelf.objects } };
+
+    ghost invariant = { λ shelf. IsTree (items_of shelf.objects) };
+}
+
+/// The index of the object with this number.
+fn index_of(objects: &[Object], fid: u64) -> Option<usize>
+    ensures { result ≡ position (λ o. o.fid == fid) objects.now }
+{
+    objects.iter().position(|o| o.fid == fid)
+}
+
+/// The object stands in this directory under a matching name.
+fn is_child(o: &Object, parent: u64, name: &Name) -> bool
+    ensures { result ≡ is_child parent name.now o.now }
+{
+    match &o.place {
+        None => false,
+        Some((at, own)) => *at == parent && own.matches(name),
+    }
+}
+
+/// Gives an object a place.
+fn place_at(objects: &mut [Object], fid: u64, place: Option<(u64, Name)>, local: bool, usn: u64)
+    ensures { objects.new ≡ edit fid (λ o. stamp local usn (at_place place o)) objects.old }
+{
+    if let Some(at) = index_of(objects, fid) {
+        let o = &mut objects[at];
+        o.place = place;
+        if local {
+            o.last_local = usn;
+        }
+    }
+}
+
+/// Gives an object contents.
+fn fill_at(objects: &mut [Object], fid: u64, bytes: Bytes, local: bool, usn: u64)
+    ensures { objects.new ≡ edit fid (λ o. stamp local usn (with_bytes bytes o)) objects.old }
+{
+    if let Some(at) = index_of(objects, fid) {
+        let o = &mut objects[at];
+        o.bytes = bytes;
+        o.sum = Sum([0; 20]);
+        if local {
+            o.last_local = usn;
+        }
+    }
+}
+
+/// Takes an object out.
+fn take_at(objects: &mut Vec<Object>, fid: u64)
+    ensures { objects.new.items ≡ without fid objects.old.items }
+{
+    if let Some(at) = index_of(objects.as_slice(), fid) {
+        objects.remove(at);
+    }
+}
+
+/// Gives an object a place, where objects were begun.
+fn place_in(
+    objects: &mut Option<Vec<Object>>,
+    fid: u64,
+    place: Option<(u64, Name)>,
+    local: bool,
+    usn: u64,
+)
+    ensures { items_of objects.new ≡ edit fid (λ o. stamp local usn (at_place place o)) (items_of objects.old) }
+{
+    match objects {
+        None => {}
+        Some(items) => place_at(items.as_mut_slice(), fid, place, local, usn),
+    }
+}
+
+/// Gives an object contents, where objects were begun.
+fn fill_in(objects: &mut Option<Vec<Object>>, fid: u64, bytes: Bytes, local: bool, usn: u64)
+    ensures { items_of objects.new ≡ edit fid (λ o. stamp local usn (with_bytes bytes o)) (items_of objects.old) }
+{
+    match objects {
+        None => {}
+        Some(items) => fill_at(items.as_mut_slice(), fid, bytes, local, usn),
+    }
+}
+
+/// Takes an object out, where objects were begun.
+fn take_from(objects: &mut Option<Vec<Object>>, fid: u64)
+    ensures { items_of objects.new ≡ without fid (items_of objects.old) }
+{
+    match objects {
+        None => {}
+        Some(items) => take_at(items, fid),
+    }
+}
+
+impl Shelf {
+    /// No objects.
+    pub(crate) fn empty() -> Shelf
+        ensures { result.items ≡ [] }
+    {
+        Shelf { objects: None }
+    }
+
+    /// The objects, lent.
+    pub(crate) fn as_slice(&self) -> &[Object]
+        ensures objects { result.now ≡ self.now.items }
+        ensures tree { IsTree self.now.items }
+    {
+        items(&self.objects)
+    }
+
+    /// The object with this number.
+    pub(crate) fn object_at(&self, fid: u64) -> Option<&Object>
+        ensures { option_copied result ≡ object_at self.now.items fid }
+    {
+        self.as_slice().iter().find(|o| o.fid == fid)
+    }
+
+    /// The object in a directory under a matching name.
+    pub(crate) fn child(&self, parent: u64, name: &Name) -> Option<&Object>
+        ensures { option_copied result ≡ child self.now.items parent name.now }
+    {
+        self.as_slice().iter().find(|o| is_child(o, parent, name))
+    }
+
+    /// Whether an object stands in this directory.
+    pub(crate) fn has_children(&self, fid: u64) -> bool
+        ensures { result ≡ has_children self.now.items fid }
+    {
+        self.as_slice().iter().any(|o| match &o.place {
+            None => false,
+            Some((at, _)) => *at == fid,
+        })
+    }
+
+    /// The object with this UID.
+    pub(crate) fn object_of(&self, own: Guid, uid: Uid) -> Option<&Object>
+        ensures { option_copied result ≡ find (λ o. same_uid (uid_of own o) uid) self.now.items }
+    {
+        self.as_slice().iter().find(|o| o.uid(own) == uid)
+    }
+
+    /// Makes room for one more object.
+    pub(crate) fn reserve(&mut self, alloc: Global) -> Result<(), AllocError>
+        ensures same { self.new.items ≡ self.old.items }
+        ensures room { OnOk result (0 < self.new.room) }
+    {
+        reserve_one(alloc, &mut self.objects)
+    }
+
+    /// Adds an object, whose number is above all others.
+    pub(crate) fn add(&mut self, object: Object)
+        requires room { 0 < self.old.room }
+        requires tree { IsTree (self.old.items ++ object ∷ []) }
+        ensures { self.new.items ≡ self.old.items ++ object ∷ [] }
+    {
+        push_reserved(&mut self.objects, object);
+    }
+
+    /// Gives an object a place, or limbo. A local change leaves its USN.
+    pub(crate) fn place(&mut self, fid: u64, place: Option<(u64, Name)>, local: bool, usn: u64)
+        requires room { 0 < self.old.room }
+        requires tree { IsTree (edit fid (λ o. stamp local usn (at_place place o)) self.old.items) }
+        ensures { self.new.items ≡ edit fid (λ o. stamp local usn (at_place place o)) self.old.items }
+    {
+        place_in(&mut self.objects, fid, place, local, usn);
+    }
+
+    /// Gives an object contents. A local change leaves its USN.
+    pub(crate) fn fill(&mut self, fid: u64, bytes: Bytes, local: bool, usn: u64)
+        requires tree { IsTree (edit fid (λ o. stamp local usn (with_bytes bytes o)) self.old.items) }
+        ensures { self.new.items ≡ edit fid (λ o. stamp local usn (with_bytes bytes o)) self.old.items }
+    {
+        fill_in(&mut self.objects, fid, bytes, local, usn);
+    }
+
+    /// Takes an object out.
+    pub(crate) fn take_out(&mut self, fid: u64)
+        requires tree { IsTree (without fid self.old.items) }
+        ensures { self.new.items ≡ without fid self.old.items }
+    {
+        take_from(&mut self.objects, fid);
+    }
+}
