@@ -6,7 +6,7 @@ use Rattle.vol_state.specs.Places.{object_at, above, above_it, is_under, ends_in
 use Rattle.vol_state.specs.Options.{some_is, none_or}
 use Rattle.vol_state.specs.Effects.{without}
 use Rattle.vol_state.proofs.Climbing.{by_cases, Agree, above_ends, not_above, apart_from, avoids_in}
-use Rattle.vol_state.proofs.Lookups.{at_without_other, length_without}
+use Rattle.vol_state.proofs.Finding.{at_without_other, length_without}
 
 -- where a climb meets top, the one from top on is no longer
 shorter : (objects : List Object) (j n top p : ℕ) → is_under objects j top p ≡ true → ends_in objects n p ≡ true → (m : ℕ) × (m ≤ n) × (ends_in objects m top ≡ true)

@@ -9,10 +9,10 @@ use Rattle.vol_state.proofs.Climbing.{by_cases}
 abbrev pub has_fid : ℕ → Object → Bool
 has_fid fid o = eqb o.fid fid
 
-one_more : (n : ℕ) → 1 + n ≡ suc n
+pub one_more : (n : ℕ) → 1 + n ≡ suc n
 one_more n = omega arith
 
-placed : (p : Object → Bool) (os : List Object) (at : ℕ) → position p os ≡ Some at → (position_or_len p os ≡ at) × (position_or_len p os < length os)
+pub placed : (p : Object → Bool) (os : List Object) (at : ℕ) → position p os ≡ Some at → (position_or_len p os ≡ at) × (position_or_len p os < length os)
 placed p os at e = go (ltb (position_or_len p os) (length os)) refl e
   where
     go : (b : Bool) → ltb (position_or_len p os) (length os) ≡ b → cond b (Some (position_or_len p os)) None ≡ Some at → (position_or_len p os ≡ at) × (position_or_len p os < length os)
@@ -46,7 +46,7 @@ without_at fid at os e =
     let p = placed (has_fid fid) os at e in
     subst (λ k. remove os k ≡ without fid os) p.0 (without_first fid os p.1)
 
-not_placed : (p : Object → Bool) (os : List Object) → position p os ≡ None → position_or_len p os < length os → ⊥
+pub not_placed : (p : Object → Bool) (os : List Object) → position p os ≡ None → position_or_len p os < length os → ⊥
 not_placed p os e l = let h : ltb (position_or_len p os) (length os) ≡ true = grind (arith, nat_tests) in absurd (cc)
 
 not_first : (fid : ℕ) (o : Object) (os : List Object) → (position_or_len (has_fid fid) (o ∷ os) < length (o ∷ os) → ⊥) → (eqb o.fid fid ≡ false) × (position_or_len (has_fid fid) os < length os → ⊥)

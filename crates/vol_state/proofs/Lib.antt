@@ -1,5 +1,5 @@
 mod Climbing
-mod Lookups
+mod Finding
 mod Bounds
 mod Edits
 mod Runs
@@ -10,3 +10,6 @@ mod Kept
 mod Reaching
 mod Resolving
 mod Replicas
+mod Searches
+mod Chains
+mod Walks

@@ -12,7 +12,7 @@ use Rattle.vol_state.specs.Paths.{then_, present, entered, walk, home, last_name
 use Rattle.vol_state.specs.Tree.{IsTree, Ends}
 use Rattle.vol_state.specs.Conditions.{is_open}
 use Rattle.vol_state.proofs.Climbing.{by_cases, above_ends}
-use Rattle.vol_state.proofs.Lookups.{in_at}
+use Rattle.vol_state.proofs.Finding.{in_at}
 use Rattle.vol_state.proofs.Bounds.{bounded}
 use Rattle.vol_state.proofs.Trees.{ends_directory}
 use Rattle.vol_state.proofs.Volumes.{find_in, both}

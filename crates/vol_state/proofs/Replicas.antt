@@ -12,7 +12,7 @@ use Rattle.vol_state.specs.State.{State, uid_of, object_of}
 use Rattle.vol_state.specs.Conditions.{is_allowed, is_placed, is_in_limbo, is_file, can_stand, can_make}
 use Rattle.vol_state.specs.Replica.{ReplicaOp, Park, Erase, Make, Rewrite, Place, only_if, and_then, parent_fid, replica}
 use Rattle.vol_state.specs.Valid.{IsVolume}
-use Rattle.vol_state.proofs.Lookups.{in_at}
+use Rattle.vol_state.proofs.Finding.{in_at}
 use Rattle.vol_state.proofs.Volumes.{both, find_in}
 
 -- the object with a UID is the one with its number

@@ -10,7 +10,7 @@ use Rattle.vol_state.specs.Places.{object_at, above, above_it, is_under, ends_in
 use Rattle.vol_state.specs.Tree.{AreRising, IsHome, Ends, IsTree}
 use Rattle.vol_state.specs.Effects.{edit, without}
 use Rattle.vol_state.proofs.Climbing.{by_cases, differ, Agree, ends_agree, avoids_in}
-use Rattle.vol_state.proofs.Lookups.{at_edit_other, at_edit_same, at_without_other, at_without_same, at_low, at_push_other, at_in, in_above}
+use Rattle.vol_state.proofs.Finding.{at_edit_other, at_edit_same, at_without_other, at_without_same, at_low, at_push_other, at_in, in_above}
 use Rattle.vol_state.proofs.Bounds.{bounded}
 
 -- members after a change

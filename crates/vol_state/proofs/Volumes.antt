@@ -21,7 +21,7 @@ use Rattle.vol_state.specs.Effects.{edit, without, added, edited, gone, effect, 
 use Rattle.vol_state.specs.Conditions.{is_placed, is_in_limbo, is_file, is_open, is_open_object, is_within, is_free, can_move, can_stand, can_make, root_uid, is_allowed}
 use Rattle.vol_state.specs.Valid.{IsVolume}
 use Rattle.vol_state.proofs.Climbing.{by_cases}
-use Rattle.vol_state.proofs.Lookups.{at_in}
+use Rattle.vol_state.proofs.Finding.{at_in}
 use Rattle.vol_state.proofs.Trees.{in_push, in_edit, in_without, tree_push, tree_without, tree_contents, tree_park, tree_stand}
 use Rattle.vol_state.proofs.Tops.{greatest_in, usn_above, fid_above, objects_fid, objects_usn}
 

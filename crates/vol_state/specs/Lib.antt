@@ -10,4 +10,5 @@ pub mod Conditions
 pub mod Replica
 pub mod Journal
 pub mod Valid
+pub mod Hints
 pub mod Seen

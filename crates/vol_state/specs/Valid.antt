@@ -3,13 +3,13 @@ use Rattle.std.specs.Prelude.{◌≡◌, ℕ}
 use Rattle.vol_state.specs.declared.object.Object.{Object}
 use Rattle.vol_state.specs.Options.{In}
 use Rattle.vol_state.specs.Tree.{IsTree}
-use Rattle.vol_state.specs.State.{State, uid_of}
+use Rattle.vol_state.specs.State.{IsOneEach, State}
 use Rattle.vol_state.specs.Numbers.{greatest_fid, greatest_usn}
 
 -- its objects are a tree, and their UIDs differ
 pub record IsVolume (v : State) : Type 0 where
   pub tree : IsTree v.objects
-  pub uids : (a b : Object) → In a v.objects → In b v.objects → uid_of v.own a ≡ uid_of v.own b → a ≡ b
+  pub uids : IsOneEach v.own v.objects
 
 -- a volume, with the greatest fid and the greatest USN that are in use
 pub record IsKept (v : State) (top_fid top_usn : ℕ) : Type 0 where

@@ -9,8 +9,12 @@
 mod command;
 mod conditions;
 mod journal;
+mod hints;
+mod keys;
 mod local;
+mod lookups;
 mod object;
+mod objects;
 mod operation;
 mod paths;
 mod record;

@@ -1,15 +1,16 @@
 // The objects of a volume, in order of their numbers.
-ghost use Rattle.std.specs.Prelude.{◌≡◌, ◌==◌, ◌<◌, ◌∷◌, ◌++◌, [], OnOk, option_copied, find, position};
+ghost use Rattle.std.specs.Prelude.{◌≡◌, ◌==◌, ◌<◌, ◌∷◌, ◌++◌, [], OnOk, option_copied, find};
 ghost use Rattle.frs_base.specs.Versions.{same_uid};
 ghost use Rattle.vol_state.specs.Rows.{items_of, room_of};
-ghost use Rattle.vol_state.specs.Places.{child, has_children, is_child, object_at};
+ghost use Rattle.vol_state.specs.Places.{child, has_children, object_at};
 ghost use Rattle.vol_state.specs.Tree.{IsTree};
 ghost use Rattle.vol_state.specs.State.{uid_of};
 ghost use Rattle.vol_state.specs.Effects.{at_place, edit, stamp, with_bytes, without};
 
 use crate::Object;
+use crate::objects::{fill_in, is_child, object_at, place_in, take_from};
 use crate::rows::{items, push_reserved, reserve_one};
-use frs_base::{Bytes, Guid, Name, Sum, Uid};
+use frs_base::{Bytes, Guid, Name, Uid};
 use std::alloc::{AllocError, Global};
 use std::marker::Model;
 
@@ -34,95 +35,6 @@ impl Model for Shelf {
     ghost invariant = { λ shelf. IsTree (items_of shelf.objects) };
 }
 
-/// The index of the object with this number.
-fn index_of(objects: &[Object], fid: u64) -> Option<usize>
-    ensures { result ≡ position (λ o. o.fid == fid) objects.now }
-{
-    objects.iter().position(|o| o.fid == fid)
-}
-
-/// The object stands in this directory under a matching name.
-fn is_child(o: &Object, parent: u64, name: &Name) -> bool
-    ensures { result ≡ is_child parent name.now o.now }
-{
-    match &o.place {
-        None => false,
-        Some((at, own)) => *at == parent && own.matches(name),
-    }
-}
-
-/// Gives an object a place.
-fn place_at(objects: &mut [Object], fid: u64, place: Option<(u64, Name)>, local: bool, usn: u64)
-    ensures { objects.new ≡ edit fid (λ o. stamp local usn (at_place place o)) objects.old }
-{
-    if let Some(at) = index_of(objects, fid) {
-        let o = &mut objects[at];
-        o.place = place;
-        if local {
-            o.last_local = usn;
-        }
-    }
-}
-
-/// Gives an object contents.
-fn fill_at(objects: &mut [Object], fid: u64, bytes: Bytes, local: bool, usn: u64)
-    ensures { objects.new ≡ edit fid (λ o. stamp local usn (with_bytes bytes o)) objects.old }
-{
-    if let Some(at) = index_of(objects, fid) {
-        let o = &mut objects[at];
-        o.bytes = bytes;
-        o.sum = Sum([0; 20]);
-        if local {
-            o.last_local = usn;
-        }
-    }
-}
-
-/// Takes an object out.
-fn take_at(objects: &mut Vec<Object>, fid: u64)
-    ensures { objects.new.items ≡ without fid objects.old.items }
-{
-    if let Some(at) = index_of(objects.as_slice(), fid) {
-        objects.remove(at);
-    }
-}
-
-/// Gives an object a place, where objects were begun.
-fn place_in(
-    objects: &mut Option<Vec<Object>>,
-    fid: u64,
-    place: Option<(u64, Name)>,
-    local: bool,
-    usn: u64,
-)
-    ensures { items_of objects.new ≡ edit fid (λ o. stamp local usn (at_place place o)) (items_of objects.old) }
-{
-    match objects {
-        None => {}
-        Some(items) => place_at(items.as_mut_slice(), fid, place, local, usn),
-    }
-}
-
-/// Gives an object contents, where objects were begun.
-fn fill_in(objects: &mut Option<Vec<Object>>, fid: u64, bytes: Bytes, local: bool, usn: u64)
-    ensures { items_of objects.new ≡ edit fid (λ o. stamp local usn (with_bytes bytes o)) (items_of objects.old) }
-{
-    match objects {
-        None => {}
-        Some(items) => fill_at(items.as_mut_slice(), fid, bytes, local, usn),
-    }
-}
-
-/// Takes an object out, where objects were begun.
-fn take_from(objects: &mut Option<Vec<Object>>, fid: u64)
-    ensures { items_of objects.new ≡ without fid (items_of objects.old) }
-{
-    match objects {
-        None => {}
-        Some(items) => take_at(items, fid),
-    }
-}
-
 impl Shelf {
     /// No objects.
     pub(crate) fn empty() -> Shelf
@@ -143,7 +55,7 @@ impl Shelf {
     pub(crate) fn object_at(&self, fid: u64) -> Option<&Object>
         ensures { option_copied result ≡ object_at self.now.items fid }
     {
-        self.as_slice().iter().find(|o| o.fid == fid)
+        object_at(items(&self.objects), fid)
     }
 
     /// The object in a directory under a matching name.

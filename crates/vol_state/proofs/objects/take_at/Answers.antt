@@ -1,7 +1,7 @@
 use Rattle.std.proofs.Common.{◌∙◌, sym, ap}
 use Rattle.std.specs.List.{position}
 use Rattle.vol_state.proofs.Edits.{has_fid, without_at, without_none}
-use Rattle.vol_state.proofs.shelf.take_at.Goals as goal
+use Rattle.vol_state.proofs.objects.take_at.Goals as goal
 
 pub returns-in-Some : goal.returns-in-Some
 returns-in-Some c =

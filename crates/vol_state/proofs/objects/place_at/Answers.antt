@@ -1,7 +1,7 @@
 use Rattle.std.proofs.Common.{◌∙◌, sym, true, false}
 use Rattle.vol_state.specs.Effects.{stamp, at_place}
 use Rattle.vol_state.proofs.Edits.{edit_at, edit_none}
-use Rattle.vol_state.proofs.shelf.place_at.Goals as goal
+use Rattle.vol_state.proofs.objects.place_at.Goals as goal
 
 pub returns-then-local : goal.returns-then-local
 returns-then-local c =
