@@ -13,3 +13,4 @@ mod Replicas
 mod Searches
 mod Chains
 mod Walks
+mod Hinted

@@ -1,5 +1,5 @@
 -- Each change leaves a tree.
-use Rattle.std.proofs.Common.{◌≡◌, ◌≢◌, ◌<◌, ◌≤◌, ◌||◌, ◌&&◌, ◌⊎◌, inl, inr, ℕ, zero, suc, Bool, true, false, cond, eqb, List, [], ◌∷◌, ◌++◌, length, Option, Some, None, refl, sym, ap, ◌∙◌, subst, arith}
+use Rattle.std.proofs.Common.{◌≡◌, ◌≢◌, ◌<◌, ◌≤◌, ◌||◌, ◌&&◌, not, ◌⊎◌, inl, inr, ℕ, zero, suc, Bool, true, false, cond, eqb, List, [], ◌∷◌, ◌++◌, length, Option, Some, None, refl, sym, ap, ◌∙◌, subst, arith}
 use Rattle.std.proofs.lemmas.Bool.Decides.{nat_tests, eqb_tells}
 use Rattle.std.specs.Prelude.{option_map}
 use Rattle.std.proofs.lemmas.Bool.{false≢true}
@@ -295,3 +295,26 @@ tree_push n os pos above_all home alone t =
         let r = ends_directory os t place.0 h in
         let kept = avoids_in os (os ++ n ∷ []) n.fid same r.0 r.0 place.0 (never_under os t n.fid nz none r.0 place.0 h) r.1 (omega arith) in
         (suc r.0, ap (λ o. none_or (ends_in (os ++ n ∷ []) r.0) (above_it o)) is ∙ ap (λ p. none_or (ends_in (os ++ n ∷ []) r.0) (option_map (λ p. p.0) p)) p ∙ kept)
+
+-- nothing stands in a file
+pub none_in_file : (os : List Object) (fid : ℕ) → IsTree os → fid ≢ 0 → some_is (λ o. not (is_directory o.kind)) (object_at os fid) ≡ true → has_children os fid ≡ false
+none_in_file os fid t nz file = any os (λ o i. t.homes o i)
+  where
+    closed : (a : Option Object) → some_is (λ o. not (is_directory o.kind)) a ≡ true → some_is (λ o. is_directory o.kind) a ≡ false
+    closed None e = absurd (cc)
+    closed (Some o) e = go (is_directory o.kind) refl e
+      where
+        go : (b : Bool) → is_directory o.kind ≡ b → not b ≡ true → is_directory o.kind ≡ false
+        go true d e = absurd (cc)
+        go false d e = d
+
+    none : is_directory_at os fid ≡ false
+    none = ap (λ b. b || some_is (λ o. is_directory o.kind) (object_at os fid)) (differ fid 0 nz) ∙ closed (object_at os fid) file
+
+    elsewhere : (place : Option (ℕ × List ℕ)) → IsHome os place → some_is (λ p. eqb p.0 fid) place ≡ false
+    elsewhere None h = refl
+    elsewhere (Some p) h = differ p.0 fid (λ e. false≢true (sym none ∙ ap (is_directory_at os) (sym e) ∙ h))
+
+    any : (xs : List Object) → ((o : Object) → In o xs → IsHome os o.place) → has_children xs fid ≡ false
+    any [] h = refl
+    any (x ∷ xs) h = ap (λ b. b || has_children xs fid) (elsewhere x.place (h x (inl refl))) ∙ any xs (λ o i. h o (inr i))

@@ -1,6 +1,6 @@
 -- A walk over the links with a key finds what is to be found.
-use Rattle.std.proofs.Common.{◌≡◌, ◌≢◌, ◌+◌, ◌-◌, ◌<◌, ◌≤◌, ◌&&◌, ◌⊎◌, inl, inr, ℕ, zero, suc, Bool, true, false, cond, eqb, List, [], ◌∷◌, ◌++◌, length, take, get_or, map, Option, Some, None, refl, sym, ap, ◌∙◌, subst, arith}
-use Rattle.std.proofs.lemmas.Bool.Decides.{nat_tests, eqb_tells}
+use Rattle.std.proofs.Common.{◌≡◌, ◌+◌, ◌-◌, ◌<◌, ◌≤◌, ◌&&◌, ◌⊎◌, inl, inr, ℕ, zero, suc, Bool, true, false, eqb, List, [], ◌∷◌, ◌++◌, length, take, get_or, map, Option, Some, None, refl, sym, ap, ◌∙◌, subst, arith}
+use Rattle.std.proofs.lemmas.Bool.Decides.{nat_tests}
 use Rattle.std.proofs.lemmas.Bool.{false≢true}
 use Rattle.std.proofs.lemmas.List.{take_more, get_or-take, length-take, get_or_default}
 use Rattle.std.proofs.lemmas.Slice.Eq.{bytes_eq-Decides}
@@ -14,7 +14,7 @@ use Rattle.vol_state.specs.Options.{In, some_is, kept_if}
 use Rattle.vol_state.specs.Places.{object_at, is_child, child}
 use Rattle.vol_state.specs.Tree.{IsTree}
 use Rattle.vol_state.specs.State.{IsOneEach, uid_of}
-use Rattle.vol_state.specs.Hints.{AreChained, AreHinted, Leads, last_with, mixed_all, no_link, place_key, place_keys, uid_key, uid_keys}
+use Rattle.vol_state.specs.Hints.{AreChained, AreHinted, last_with, mixed_all, no_link, place_key, place_keys, uid_key, uid_keys}
 use Rattle.vol_state.proofs.Climbing.{by_cases}
 use Rattle.vol_state.proofs.Finding.{at_in, in_at}
 use Rattle.vol_state.proofs.Volumes.{both, find_in, find_none}

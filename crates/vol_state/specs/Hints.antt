@@ -1,6 +1,5 @@
 -- Where to look for objects.
-use Rattle.std.specs.Prelude.{◌≡◌, ◌⊎◌, false, ◌*◌, ◌+◌, ◌-◌, ◌%◌, ◌^◌, ◌<◌, ◌==◌, nat_eq, ℕ, zero, suc, Bool, option_map, slice_set, if◌then◌else◌, List, [], ◌∷◌, length, take, slice_index_or, map, Option, Some, None, unwrap_or}
-
+use Rattle.std.specs.Prelude.{⊤, ◌≡◌, ◌⊎◌, false, ◌*◌, ◌+◌, ◌%◌, ◌^◌, ◌<◌, ◌==◌, nat_eq, ℕ, zero, suc, Bool, option_map, slice_set, if◌then◌else◌, List, [], ◌∷◌, length, take, slice_index_or, map, Option, Some, None, unwrap_or}
 use Rattle.std.specs.HashMap.{HashMap, get, spare}
 use Rattle.frs_base.specs.Names.{fold_unit}
 use Rattle.frs_base.specs.declared.version.Uid.{Uid}
@@ -8,6 +7,7 @@ use Rattle.vol_state.specs.declared.object.Object.{Object}
 use Rattle.vol_state.specs.declared.hints.Link.{Link}
 use Rattle.vol_state.specs.Options.{In, some_is}
 use Rattle.vol_state.specs.Places.{object_at}
+use Rattle.vol_state.specs.Tree.{IsTree}
 use Rattle.vol_state.specs.State.{uid_of}
 
 -- hints, and the room for more
@@ -52,9 +52,13 @@ uid_key uid = mixed uid.version (uid.db % 2 ^ 64)
 abbrev pub AreHinted : (Object → Option ℕ) → List Link → List Object → Type 0
 AreHinted keys links objects = (o : Object) (key : ℕ) → In o objects → keys o ≡ Some key → Leads links key o.fid
 
+-- the key of a place
+abbrev pub key_of : Option (ℕ × List ℕ) → Option ℕ
+key_of place = option_map (λ p. place_key p.0 p.1) place
+
 -- the key of an object's place
 abbrev pub place_keys : Object → Option ℕ
-place_keys o = option_map (λ p. place_key p.0 p.1) o.place
+place_keys o = key_of o.place
 
 -- the key of an object's UID
 abbrev pub uid_keys : ℕ → Object → Option ℕ
@@ -102,3 +106,14 @@ newest_after old other key at = if key == other then at else old
 pub record IsThreaded {S : Type 0} (newest : Option (HashMap ℕ ℕ S)) (links : List Link) : Type 0 where
   pub newest_is : (key : ℕ) → newest_of newest key ≡ last_with key links
   pub chained : AreChained links
+
+-- the key, if there is one, leads to this object
+abbrev pub LeadsFrom : List Link → Option ℕ → ℕ → Type 0
+LeadsFrom links None fid = ⊤
+LeadsFrom links (Some key) fid = Leads links key fid
+
+-- what is true of objects with hints by place and by UID
+pub record IsShelf (own : ℕ) (places uids : List Link) (objects : List Object) : Type 0 where
+  pub tree : IsTree objects
+  pub placed : AreHinted place_keys places objects
+  pub named : AreHinted (uid_keys own) uids objects

@@ -14,8 +14,9 @@ pub record Seen : Type 0 where
 abbrev pub fresh_state : ℕ → State
 fresh_state own = record { own = own; objects = []; journal = []; next_fid = 1; next_usn = 9 }
 
--- objects, and the room for more
+-- the own database, objects, and the room for more
 pub record Shelved : Type 0 where
+  pub own : ℕ
   pub items : List Object
   pub room : ℕ
 

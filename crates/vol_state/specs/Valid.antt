@@ -1,7 +1,5 @@
 -- What is true of every volume.
 use Rattle.std.specs.Prelude.{◌≡◌, ℕ}
-use Rattle.vol_state.specs.declared.object.Object.{Object}
-use Rattle.vol_state.specs.Options.{In}
 use Rattle.vol_state.specs.Tree.{IsTree}
 use Rattle.vol_state.specs.State.{IsOneEach, State}
 use Rattle.vol_state.specs.Numbers.{greatest_fid, greatest_usn}

@@ -56,10 +56,7 @@ fn newest_of(newest: &Option<HashMap<u64, usize>>, key: u64) -> usize
 }
 
 /// Makes room for one more key.
-fn reserve_key(
-    alloc: Global,
-    newest: &mut Option<HashMap<u64, usize>>,
-) -> Result<(), AllocError>
+fn reserve_key(alloc: Global, newest: &mut Option<HashMap<u64, usize>>) -> Result<(), AllocError>
     ensures same { (key : ℕ) → newest_of newest.new key ≡ newest_of newest.old key }
     ensures room { OnOk result (0 < spare_of newest.new) }
 {

@@ -8,8 +8,8 @@
 
 mod command;
 mod conditions;
-mod journal;
 mod hints;
+mod journal;
 mod keys;
 mod local;
 mod lookups;

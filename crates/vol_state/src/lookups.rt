@@ -1,11 +1,11 @@
 // Objects found by hints.
 ghost use Rattle.std.specs.Prelude.{◌≡◌, ◌<◌, Some, option_copied, find};
 ghost use Rattle.frs_base.specs.Versions.{same_uid};
-ghost use Rattle.vol_state.specs.Options.{kept_if};
+ghost use Rattle.vol_state.specs.Options.{kept_if, some_is};
 ghost use Rattle.vol_state.specs.Places.{child, is_child, object_at};
 ghost use Rattle.vol_state.specs.Tree.{IsTree};
 ghost use Rattle.vol_state.specs.State.{IsOneEach, uid_of};
-ghost use Rattle.vol_state.specs.Hints.{AreHinted, Leads, is_keyed, place_key, place_keys, uid_key, uid_keys};
+ghost use Rattle.vol_state.specs.Hints.{AreHinted, Leads, LeadsFrom, head_of, is_keyed, key_of, place_key, place_keys, uid_key, uid_keys};
 
 use crate::Object;
 use crate::hints::{Hints, put_hint};
@@ -107,4 +107,60 @@ fn is_uid_keyed(objects: &[Object], own: Guid, key: u64, fid: u64) -> bool
         None => false,
         Some(o) => uid_key(o.uid(own)) == key,
     }
+}
+
+/// The object that the newest hint with this key leads to stands under a name with this key.
+fn is_head_placed(objects: &[Object], hints: &Hints, key: u64) -> bool
+    requires { IsTree objects.now }
+    ensures { result ≡ some_is (is_keyed place_keys objects.now key) (head_of key hints.now.links) }
+{
+    match hints.head(key) {
+        None => false,
+        Some(fid) => is_place_keyed(objects, key, fid),
+    }
+}
+
+/// The object that the newest hint with this key leads to has a UID with this key.
+fn is_head_named(objects: &[Object], hints: &Hints, own: Guid, key: u64) -> bool
+    requires { IsTree objects.now }
+    ensures { result ≡ some_is (is_keyed (uid_keys own) objects.now key) (head_of key hints.now.links) }
+{
+    match hints.head(key) {
+        None => false,
+        Some(fid) => is_uid_keyed(objects, own, key, fid),
+    }
+}
+
+/// Adds a hint of a place.
+pub(crate) fn hint_place(
+    objects: &[Object],
+    hints: &mut Hints,
+    fid: u64,
+    place: &Option<(u64, Name)>,
+)
+    requires tree { IsTree objects.now }
+    requires room { 0 < hints.old.room }
+    requires hinted { AreHinted place_keys hints.old.links objects.now }
+    ensures hinted { AreHinted place_keys hints.new.links objects.now }
+    ensures there { LeadsFrom hints.new.links (key_of place.now) fid }
+{
+    let Some((parent, name)) = place else {
+        return;
+    };
+    let key = place_key(*parent, name);
+    let keyed = is_head_placed(objects, hints, key);
+    put_hint(hints, key, fid, keyed);
+}
+
+/// Adds a hint of a UID.
+pub(crate) fn hint_uid(objects: &[Object], hints: &mut Hints, own: Guid, fid: u64, uid: Uid)
+    requires tree { IsTree objects.now }
+    requires room { 0 < hints.old.room }
+    requires hinted { AreHinted (uid_keys own) hints.old.links objects.now }
+    ensures hinted { AreHinted (uid_keys own) hints.new.links objects.now }
+    ensures there { Leads hints.new.links (uid_key uid) fid }
+{
+    let key = uid_key(uid);
+    let keyed = is_head_named(objects, hints, own, key);
+    put_hint(hints, key, fid, keyed);
 }

@@ -2,12 +2,14 @@
 ghost use Rattle.std.specs.Prelude.{◌≡◌, ◌==◌, ◌<◌, ◌≤◌, true, false, nat_lt, length, option_copied, position};
 ghost use Rattle.std.specs.List.Sorted.{IsPartitionPoint};
 ghost use Rattle.vol_state.specs.Rows.{items_of};
-ghost use Rattle.vol_state.specs.Places.{is_child, object_at};
-ghost use Rattle.vol_state.specs.Tree.{AreRising};
+ghost use Rattle.vol_state.specs.Places.{has_children, is_child, object_at};
+ghost use Rattle.vol_state.specs.Tree.{AreRising, IsTree};
+ghost use Rattle.vol_state.specs.Options.{some_is};
+ghost use Rattle.vol_state.specs.Conditions.{is_file};
 ghost use Rattle.vol_state.specs.Effects.{at_place, edit, stamp, with_bytes, without};
 
 use crate::Object;
-use frs_base::{Bytes, Name, Sum};
+use frs_base::{Bytes, Kind, Name, Sum};
 
 /// The index of the first object whose number isn't below this one.
 fn first_from(objects: &[Object], fid: u64) -> usize
@@ -52,6 +54,42 @@ pub(crate) fn is_child(o: &Object, parent: u64, name: &Name) -> bool
         None => false,
         Some((at, own)) => *at == parent && own.matches(name),
     }
+}
+
+/// The object stands in this directory.
+fn is_in(o: &Object, fid: u64) -> bool
+    ensures { result ≡ some_is (λ p. p.0 == fid) o.now.place }
+{
+    match &o.place {
+        None => false,
+        Some((at, _)) => *at == fid,
+    }
+}
+
+/// The object with this number is there, a file.
+fn is_file_in(objects: &[Object], fid: u64) -> bool
+    requires { AreRising 0 objects.now }
+    ensures { result ≡ some_is is_file (object_at objects.now fid) }
+{
+    match object_at(objects, fid) {
+        None => false,
+        Some(o) => match o.kind {
+            Kind::File => true,
+            Kind::Directory => false,
+        },
+    }
+}
+
+/// Whether an object stands in this directory. Nothing stands in a file, so only the removal of a
+/// directory looks at all objects.
+pub(crate) fn has_children_in(objects: &[Object], fid: u64) -> bool
+    requires { IsTree objects.now }
+    ensures { result ≡ has_children objects.now fid }
+{
+    if fid != 0 && is_file_in(objects, fid) {
+        return false;
+    }
+    objects.iter().any(|o| is_in(o, fid))
 }
 
 /// Gives an object a place.
@@ -111,7 +149,13 @@ pub(crate) fn place_in(
 }
 
 /// Gives an object contents, where objects were begun.
-pub(crate) fn fill_in(objects: &mut Option<Vec<Object>>, fid: u64, bytes: Bytes, local: bool, usn: u64)
+pub(crate) fn fill_in(
+    objects: &mut Option<Vec<Object>>,
+    fid: u64,
+    bytes: Bytes,
+    local: bool,
+    usn: u64,
+)
     requires { AreRising 0 (items_of objects.old) }
     ensures { items_of objects.new ≡ edit fid (λ o. stamp local usn (with_bytes bytes o)) (items_of objects.old) }
 {
@@ -131,4 +175,3 @@ pub(crate) fn take_from(objects: &mut Option<Vec<Object>>, fid: u64)
         Some(items) => take_at(items, fid),
     }
 }
-

@@ -21,7 +21,6 @@ use std::marker::Model;
 /// A contract sees its state, and for how many commands it has room.
 #[derive(Drop)]
 pub struct Volume {
-    own: Guid,
     shelf: Shelf,
     journal: Journal,
     next_fid: u64,
@@ -38,9 +37,9 @@ impl Model for Volume {
 
     ghost Value = { Seen };
 
-    ghost view = { λ s. record { state = record { own = s.own; objects = s.shelf.items; journal = s.journal.items; next_fid = s.next_fid; next_usn = s.next_usn }; room = min s.shelf.room s.journal.room } };
+    ghost view = { λ s. record { state = record { own = s.shelf.own; objects = s.shelf.items; journal = s.journal.items; next_fid = s.next_fid; next_usn = s.next_usn }; room = min s.shelf.room s.journal.room } };
 
-    ghost invariant = { λ s. IsKept (record { own = s.own; objects = s.shelf.items; journal = s.journal.items; next_fid = s.next_fid; next_usn = s.next_usn }) s.top_fid s.top_usn };
+    ghost invariant = { λ s. IsKept (record { own = s.shelf.own; objects = s.shelf.items; journal = s.journal.items; next_fid = s.next_fid; next_usn = s.next_usn }) s.top_fid s.top_usn };
 }
 
 impl Volume {
@@ -49,8 +48,7 @@ impl Volume {
         ensures { result.state ≡ fresh_state own }
     {
         Volume {
-            own,
-            shelf: Shelf::empty(),
+            shelf: Shelf::empty(own),
             journal: Journal::empty(),
             next_fid: 1,
             next_usn: FIRST_USN,
@@ -63,7 +61,7 @@ impl Volume {
     pub fn own(&self) -> Guid
         ensures { result ≡ self.now.state.own }
     {
-        self.own
+        self.shelf.own()
     }
 
     /// The objects, in order of their numbers.
@@ -107,7 +105,7 @@ impl Volume {
         ensures object { option_copied result ≡ object_of self.now.state uid }
         ensures valid { IsVolume self.now.state }
     {
-        self.shelf.object_of(self.own, uid)
+        self.shelf.object_of(&uid)
     }
 
     /// The objects, to look them up.

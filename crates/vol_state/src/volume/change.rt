@@ -70,9 +70,10 @@ impl Volume {
             tag,
             last_local: first_local(local, usn),
         };
-        let uid = object.uid(self.own);
+        let own = self.shelf.own();
+        let uid = object.uid(own);
         self.top_fid = fid;
-        self.top_usn = usn.max(own_version(self.own, &object));
+        self.top_usn = usn.max(own_version(own, &object));
         self.shelf.add(object);
         self.journal.push(VolRecord {
             usn,
@@ -94,7 +95,7 @@ impl Volume {
         ensures { self.new.state ≡ edited op local fid (at_place place) self.old.state }
     {
         let usn = self.next_usn;
-        let uid = uid_found(self.own, self.shelf.object_at(fid));
+        let uid = uid_found(self.shelf.own(), self.shelf.object_at(fid));
         self.shelf.place(fid, place, local, usn);
         self.journal.push(VolRecord {
             usn,
@@ -116,7 +117,7 @@ impl Volume {
         ensures { self.new.state ≡ edited op local fid (with_bytes bytes) self.old.state }
     {
         let usn = self.next_usn;
-        let uid = uid_found(self.own, self.shelf.object_at(fid));
+        let uid = uid_found(self.shelf.own(), self.shelf.object_at(fid));
         self.shelf.fill(fid, bytes, local, usn);
         self.journal.push(VolRecord {
             usn,
@@ -138,7 +139,7 @@ impl Volume {
         ensures { self.new.state ≡ gone op local fid self.old.state }
     {
         let usn = self.next_usn;
-        let uid = uid_found(self.own, self.shelf.object_at(fid));
+        let uid = uid_found(self.shelf.own(), self.shelf.object_at(fid));
         self.shelf.take_out(fid);
         self.journal.push(VolRecord {
             usn,

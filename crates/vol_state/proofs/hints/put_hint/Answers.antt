@@ -1,7 +1,6 @@
-use Rattle.std.proofs.Common.{◌≡◌, ◌∙◌, ◌-◌, ◌⊎◌, ◌∷◌, ◌++◌, [], inl, refl, sym, ap, subst, Some, List, ℕ}
+use Rattle.std.proofs.Common.{◌∙◌, refl, sym, ap, subst, Some}
 use Rattle.std.specs.Prelude.{IsSome}
-use Rattle.vol_state.specs.declared.hints.Link.{Link}
-use Rattle.vol_state.specs.Hints.{KeepsBut, Leads, head_of, last_with}
+use Rattle.vol_state.specs.Hints.{KeepsBut, Leads, head_of}
 use Rattle.vol_state.proofs.Chains.{leads_push, keeps_push, leads_head, leads_redirected, keeps_redirected, head_some}
 use Rattle.vol_state.proofs.hints.put_hint.Goals as goal
 

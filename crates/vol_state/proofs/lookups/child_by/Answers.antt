@@ -1,9 +1,8 @@
-use Rattle.std.proofs.Common.{◌≡◌, ◌∙◌, ◌-◌, ◌<◌, ◌≤◌, sym, ap, subst, arith, rules, length, List, ℕ, Some, None}
+use Rattle.std.proofs.Common.{◌∙◌, ◌-◌, ◌<◌, sym, ap, subst, arith, rules, length}
 use Rattle.std.specs.Prelude.{option_copied}
-use Rattle.vol_state.specs.declared.hints.Link.{Link}
 use Rattle.vol_state.specs.Places.{is_child}
-use Rattle.vol_state.specs.Hints.{AreChained, AreHinted, last_with, place_key, place_keys, uid_key, uid_keys}
-use Rattle.vol_state.proofs.Walks.{has_uid, looked_begin, bounds_link, less_link, next_link, child_found, child_end}
+use Rattle.vol_state.specs.Hints.{AreChained, AreHinted, last_with, place_key, place_keys}
+use Rattle.vol_state.proofs.Walks.{looked_begin, bounds_link, less_link, next_link, child_found, child_end}
 use Rattle.vol_state.proofs.lookups.child_by.Goals as goal
 
 pub loop-at-init : goal.loop-at-init

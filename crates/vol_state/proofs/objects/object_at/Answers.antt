@@ -1,4 +1,4 @@
-use Rattle.std.proofs.Common.{◌≡◌, ◌∙◌, sym, ap, Some}
+use Rattle.std.proofs.Common.{◌∙◌, sym, ap, Some}
 use Rattle.vol_state.proofs.Searches.{found_at, not_found}
 use Rattle.vol_state.proofs.objects.object_at.Goals as goal
 

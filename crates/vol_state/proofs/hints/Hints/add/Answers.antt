@@ -1,4 +1,4 @@
-use Rattle.std.proofs.Common.{◌≡◌, ◌∙◌, ◌+◌, sym, ap, length, ℕ, List}
+use Rattle.std.proofs.Common.{◌∙◌, ◌+◌, ap, length, List}
 use Rattle.vol_state.specs.Rows.{items_of}
 use Rattle.vol_state.specs.declared.hints.Link.{Link}
 use Rattle.vol_state.specs.Hints.{newest_after, newest_of}

@@ -1,4 +1,4 @@
-use Rattle.std.proofs.Common.{◌≡◌, ◌∙◌, ◌-◌, ◌<◌, ◌≤◌, sym, ap, arith, length, rules}
+use Rattle.std.proofs.Common.{◌∙◌, ◌-◌, ◌<◌, ap, arith, length, rules}
 use Rattle.vol_state.specs.Rows.{items_of}
 use Rattle.vol_state.proofs.Chains.{last_within}
 use Rattle.vol_state.proofs.hints.Hints.head.Goals as goal
