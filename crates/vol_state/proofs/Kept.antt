@@ -6,8 +6,8 @@ use Rattle.frs_base.specs.declared.version.Uid.{Uid}
 use Rattle.vol_state.specs.declared.object.Object.{Object}
 use Rattle.vol_state.specs.Places.{object_at}
 use Rattle.vol_state.specs.State.{State}
-use Rattle.vol_state.specs.Numbers.{own_version, has_usn, has_fid, greatest_fid, greatest_usn}
-use Rattle.vol_state.specs.Effects.{added, edited, gone, new_object, at_place, with_bytes}
+use Rattle.vol_state.specs.Numbers.{own_version, usn_in, has_usn, has_fid, greatest_fid, greatest_usn}
+use Rattle.vol_state.specs.Effects.{added, edited, gone, new_object, at_place, with_bytes, stamp}
 use Rattle.vol_state.specs.Seen.{fresh_state}
 use Rattle.vol_state.specs.Valid.{IsVolume, IsKept}
 use Rattle.vol_state.proofs.Tops.{fid_added, usn_added, fid_edited, usn_edited, fid_gone, usn_gone}
@@ -28,7 +28,7 @@ kept_fresh own = record {
   usn = refl;
 }
 
-there_of : {T : Type 0} (x : Option T) → IsSome x → (y : T) × (x ≡ Some y)
+pub there_of : {T : Type 0} (x : Option T) → IsSome x → (y : T) × (x ≡ Some y)
 there_of None s = absurd (cc)
 there_of (Some y) s = (y, refl)
 
@@ -45,17 +45,18 @@ kept_added op local place kind bytes tag v usn fid valid = record {
     most true = omega arith
     most false = omega arith
 
+-- a stamped object has no USN above the new one and its own
+pub most_stamped : (f : Object → Object) (own usn : ℕ) → ((x : Object) → (f x).born ≡ x.born) → ((x : Object) → (f x).tag ≡ x.tag) → ((x : Object) → (f x).last_local ≡ x.last_local) → (local : Bool) (x : Object) → usn_in own (stamp local usn (f x)) ≤ max (usn_in own x) usn
+most_stamped f own usn borns tags lasts true x = let a = borns x in let b = ap (own_version own) (tags x) in omega arith
+most_stamped f own usn borns tags lasts false x = let a = borns x in let b = ap (own_version own) (tags x) in let d = lasts x in omega arith
+
 kept_edited : (op : ℕ) (local : Bool) (fid : ℕ) (f : Object → Object) (v : State) (top_fid top_usn : ℕ) → ((x : Object) → (f x).fid ≡ x.fid) → ((x : Object) → (f x).born ≡ x.born) → ((x : Object) → (f x).tag ≡ x.tag) → ((x : Object) → (f x).last_local ≡ x.last_local)
     → IsKept v top_fid top_usn → has_usn v ≡ true → IsSome (object_at v.objects fid) → IsVolume (edited op local fid f v) → IsKept (edited op local fid f v) top_fid v.next_usn
 kept_edited op local fid f v top_fid top_usn fids borns tags lasts k usn there valid = record {
   valid = valid;
   fid = let o = there_of (object_at v.objects fid) there in k.fid ∙ fid_edited op local fid f o.0 v fids o.1;
-  usn = usn_edited op local fid f v (λ x. most x local) usn;
+  usn = usn_edited op local fid f v (most_stamped f v.own v.next_usn borns tags lasts local) usn;
 }
-  where
-    most : (x : Object) (b : Bool) → max (f x).born (max (if b then v.next_usn else (f x).last_local) (own_version v.own (f x).tag)) ≤ max (max x.born (max x.last_local (own_version v.own x.tag))) v.next_usn
-    most x true = let a = borns x in let b = ap (own_version v.own) (tags x) in omega arith
-    most x false = let a = borns x in let b = ap (own_version v.own) (tags x) in let d = lasts x in omega arith
 
 pub kept_place : (op : ℕ) (local : Bool) (fid : ℕ) (place : Option (ℕ × List ℕ)) (v : State) (top_fid top_usn : ℕ)
     → IsKept v top_fid top_usn → has_usn v ≡ true → IsSome (object_at v.objects fid) → IsVolume (edited op local fid (at_place place) v) → IsKept (edited op local fid (at_place place) v) top_fid v.next_usn

@@ -14,3 +14,4 @@ mod Searches
 mod Chains
 mod Walks
 mod Hinted
+mod Numbering

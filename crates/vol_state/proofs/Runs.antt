@@ -35,7 +35,7 @@ pub last_other : (rs : List VolRecord) (r : VolRecord) (uid : Uid) → (r.local 
 last_other [] r uid e = ap (later_or None r.usn) e
 last_other (x ∷ rs) r uid e = ap (λ l. later_or l x.usn (x.local && same_uid x.uid uid)) (last_other rs r uid e)
 
-run_push : (usn : ℕ) (rs : List VolRecord) (r : VolRecord) → RunsFrom usn rs → r.usn ≡ usn + length rs → RunsFrom usn (rs ++ r ∷ [])
+pub run_push : (usn : ℕ) (rs : List VolRecord) (r : VolRecord) → RunsFrom usn rs → r.usn ≡ usn + length rs → RunsFrom usn (rs ++ r ∷ [])
 run_push usn [] r h e = (omega (arith, e), tt)
 run_push usn (x ∷ rs) r h e = (h.0, run_push (usn + 1) rs r h.1 (omega (arith, e)))
 

@@ -1,5 +1,5 @@
 -- Each command leaves a volume.
-use Rattle.std.proofs.Common.{◌≡◌, ◌≢◌, ◌<◌, ◌≤◌, ◌||◌, ◌&&◌, not, ◌⊎◌, inl, inr, ℕ, Bool, true, false, cond, eqb, leb, List, [], ◌∷◌, length, Option, Some, None, refl, sym, ap, ◌∙◌, subst, map, arith}
+use Rattle.std.proofs.Common.{◌≡◌, ◌≢◌, ◌<◌, ◌≤◌, ◌||◌, ◌&&◌, not, ◌⊎◌, inl, inr, ℕ, Bool, true, false, cond, eqb, leb, List, [], ◌∷◌, length, Option, Some, None, refl, sym, ap, ◌∙◌, map, arith}
 use Rattle.std.proofs.lemmas.Bool.Decides.{nat_tests}
 use Rattle.std.proofs.lemmas.Bool.{false≢true}
 use Rattle.std.proofs.lemmas.Slice.Eq.{bytes_eq-Decides}
@@ -212,14 +212,6 @@ parked fid o v h at =
     (tree_park (λ x. stamp false v.next_usn (at_place None x)) fid v.objects o (λ x. refl) (λ x. refl) (λ x. refl) at h.tree)
 
 -- ---- all commands
-
--- the object of a command that makes none is there
-pub is_there : (cmd : VolCmd) (fid : ℕ) (v : State) → (cmd ≡ Remove fid) ⊎ (cmd ≡ Erase fid) → is_allowed cmd v ≡ true → (o : Object) × (object_at v.objects fid ≡ Some o)
-is_there cmd fid v which m = by_cases which
-    (λ e. let n : is_allowed (Remove fid) v ≡ true = subst (λ c. is_allowed c v ≡ true) e m in
-    some_there (object_at v.objects fid) (both (is_some (object_at v.objects fid)) (is_reached v.objects fid) (both (is_open_object v.objects fid) (not (has_children v.objects fid)) n).0).0)
-    (λ e. let n : is_allowed (Erase fid) v ≡ true = subst (λ c. is_allowed c v ≡ true) e m in
-    let s = some_of is_in_limbo (object_at v.objects fid) (both (some_is is_in_limbo (object_at v.objects fid)) (not (has_children v.objects fid)) n).0 in (s.0, s.1))
 
 -- a command whose condition holds leaves a volume, where its numbers can be given out
 pub effect_keeps : (cmd : VolCmd) (v : State) → IsVolume v → has_numbers cmd v ≡ true → is_allowed cmd v ≡ true → IsVolume (effect cmd v)

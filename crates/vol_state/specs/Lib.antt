@@ -11,4 +11,5 @@ pub mod Replica
 pub mod Journal
 pub mod Valid
 pub mod Hints
+pub mod Laws
 pub mod Seen

@@ -11,6 +11,7 @@ mod conditions;
 mod hints;
 mod journal;
 mod keys;
+mod laws;
 mod local;
 mod lookups;
 mod object;
@@ -25,6 +26,7 @@ mod tree;
 mod volume;
 
 pub use command::{Ready, VolCmd};
+pub use laws::{steps_keep_the_numbering, steps_leave_numbers_free};
 pub use object::Object;
 pub use operation::{LocalOp, Refused};
 pub use record::VolRecord;
