@@ -31,3 +31,6 @@ pub use object::Object;
 pub use operation::{LocalOp, Refused};
 pub use record::VolRecord;
 pub use volume::Volume;
+
+#[cfg(test)]
+mod tests;
