@@ -21,17 +21,16 @@ impl Volume {
             unreachable!()
         };
         let name = last_name(path);
-        match shelf.child(at, name) {
-            None => Ok(VolCmd::PutNew {
-                parent: at,
-                name: name.copy(alloc)?,
-                bytes: Bytes::of(bytes),
-            }),
-            Some(o) => Ok(VolCmd::PutOver {
-                fid: o.fid,
-                bytes: Bytes::of(bytes),
-            }),
+        let bytes = Bytes::of(bytes);
+        if let Some(o) = shelf.child(at, name) {
+            return Ok(VolCmd::PutOver { fid: o.fid, bytes });
         }
+        let name = name.copy(alloc)?;
+        Ok(VolCmd::PutNew {
+            parent: at,
+            name,
+            bytes,
+        })
     }
 
     /// The command of a mkdir that isn't refused.

@@ -82,8 +82,8 @@ impl Volume {
             op,
             local,
         });
-        self.next_fid += 1;
-        self.next_usn += 1;
+        self.next_fid = fid + 1;
+        self.next_usn = usn + 1;
     }
 
     /// Gives an object a place, or limbo.
