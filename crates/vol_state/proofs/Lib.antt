@@ -15,3 +15,4 @@ mod Chains
 mod Walks
 mod Hinted
 mod Numbering
+mod Standing

@@ -82,10 +82,10 @@ free_gone op local fid v h usn there = record {
   usn = let e = usn_gone op local fid v usn in omega arith;
 }
 
-some_at : (test : Object → Bool) (found : Option Object) → some_is test found ≡ true → (o : Object) × (found ≡ Some o)
+pub some_at : (test : Object → Bool) (found : Option Object) → some_is test found ≡ true → (o : Object) × (found ≡ Some o)
 some_at test found e = let s = some_of test found e in (s.0, s.1)
 
-opened_at : (fid : ℕ) (v : State) → is_open_object v.objects fid ≡ true → (o : Object) × (object_at v.objects fid ≡ Some o)
+pub opened_at : (fid : ℕ) (v : State) → is_open_object v.objects fid ≡ true → (o : Object) × (object_at v.objects fid ≡ Some o)
 opened_at fid v e = some_there (object_at v.objects fid) (both (is_some (object_at v.objects fid)) (is_reached v.objects fid) e).0
 
 own_born : (v : State) (uid : Uid) → IsBorn v uid → own_version v.own (Some uid) ≤ v.next_usn

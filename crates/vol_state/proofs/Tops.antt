@@ -46,7 +46,7 @@ without_fid fid (o ∷ os) = by_cases (eqb_tells o.fid fid)
     (λ t. rw t.0 (let h = t.1 in omega arith))
     (λ t. rw t.0 (let h = without_fid fid os in omega arith))
 
-there_at_most : (fid : ℕ) (o : Object) (os : List Object) → object_at os fid ≡ Some o → fid ≤ greatest (λ o. o.fid) os
+pub there_at_most : (fid : ℕ) (o : Object) (os : List Object) → object_at os fid ≡ Some o → fid ≤ greatest (λ o. o.fid) os
 there_at_most fid o [] e = absurd (cc)
 there_at_most fid o (x ∷ os) e = by_cases (eqb_tells x.fid fid)
     (λ t. let h = t.1 in omega arith)

@@ -251,7 +251,7 @@ push_directory n os none nz x e =
     (λ z. absurd (false≢true (sym (ap (λ b. b || some_is (λ o. is_directory o.kind) (object_at os x)) (differ x 0 (λ q. nz (sym z.1 ∙ q))) ∙ ap (some_is (λ o. is_directory o.kind)) (ap (object_at os) z.1 ∙ none)) ∙ e)))
     (λ z. ap (λ y. eqb x 0 || some_is (λ o. is_directory o.kind) y) (at_push_other n x z.1 os) ∙ e)
 
-at_new : (n : Object) (os : List Object) → object_at os n.fid ≡ None → object_at (os ++ n ∷ []) n.fid ≡ Some n
+pub at_new : (n : Object) (os : List Object) → object_at os n.fid ≡ None → object_at (os ++ n ∷ []) n.fid ≡ Some n
 at_new n [] e = let s : eqb n.fid n.fid ≡ true = grind (arith, nat_tests) in rw s refl
 at_new n (o ∷ os) e = go (eqb o.fid n.fid) refl (at_new n os)
   where

@@ -13,3 +13,4 @@ pub mod Valid
 pub mod Hints
 pub mod Laws
 pub mod Seen
+pub mod Maps

@@ -26,7 +26,10 @@ mod tree;
 mod volume;
 
 pub use command::{Ready, VolCmd};
-pub use laws::{steps_keep_the_numbering, steps_leave_numbers_free};
+pub use laws::{
+    fresh_lists_stand_for_maps, lists_stand_for_maps, steps_keep_the_numbering,
+    steps_leave_numbers_free,
+};
 pub use object::Object;
 pub use operation::{LocalOp, Refused};
 pub use record::VolRecord;

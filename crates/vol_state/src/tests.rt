@@ -236,3 +236,23 @@ fn a_path_may_have_64_components(rt: HostRuntime) -> Result<(), Fail> {
     assert_eq!(rt; volume.objects().len(), 64);
     Ok(())
 }
+
+#[test]
+fn refusals_say_why(rt: HostRuntime) -> Result<(), Fail> {
+    let alloc = rt.alloc();
+    let rows = [
+        (
+            Refused::TooLarge { length: 1_048_577 },
+            "1048577 bytes are too many for a file",
+        ),
+        (Refused::NoPath, "no such path"),
+        (Refused::NotDirectory, "a file in place of a directory"),
+        (Refused::Looped, "a directory can't be moved into itself"),
+        (Refused::NameTaken, "the name is taken"),
+        (Refused::NotEmpty, "the directory isn't empty"),
+    ];
+    for (refused, text) in rows {
+        assert_eq!(rt; refused.to_string(alloc)?.as_str(), text);
+    }
+    Ok(())
+}
