@@ -70,6 +70,24 @@ search_none fid (o ∷ os) i r p other = sym (position_none (has_fid fid) (o ∷
         (λ (m : i ≤ k). from k m l (p.1 i o (omega arith) (omega arith)))
         (cases_lt k i)
 
+above_strict : (low : ℕ) (os : List Object) → AreRising low os → (k : ℕ) (d : Object) → k < length os → low < (get_or os k d).fid
+above_strict low [] r k d l = absurd (omega arith)
+above_strict low (o ∷ os) r zero d l = r.0
+above_strict low (o ∷ os) r (suc k) d l = let h = r.0 in let m = above_strict o.fid os r.1 k d (omega arith) in omega arith
+
+rising_strict : (low : ℕ) (os : List Object) → AreRising low os → (i j : ℕ) (d : Object) → i < j → j < length os → (get_or os i d).fid < (get_or os j d).fid
+rising_strict low [] r i j d lt l = absurd (omega arith)
+rising_strict low (o ∷ os) r i zero d lt l = absurd (omega arith)
+rising_strict low (o ∷ os) r zero (suc j) d lt l = above_strict o.fid os r.1 j d (omega arith)
+rising_strict low (o ∷ os) r (suc i) (suc j) d lt l = rising_strict o.fid os r.1 i j d (omega arith) (omega arith)
+
+-- an object with the number, wherever it was looked for
+pub guessed : (fid : ℕ) (os : List Object) (i : ℕ) (d : Object) → AreRising 0 os → i < length os → (get_or os i d).fid ≡ fid → Some i ≡ position (has_fid fid) os
+guessed fid os i d r l e = sym (position_some (has_fid fid) os i (first_here fid os i d (λ k m s. before k m s) l e) l)
+  where
+    before : (k : ℕ) → k < i → (get_or os k d).fid ≡ fid → ⊥
+    before k m s = let h = rising_strict 0 os r k i d m l in omega arith
+
 -- the object at the index
 pub found_at : (fid at : ℕ) (os : List Object) (d : Object) → position (has_fid fid) os ≡ Some at → Some (get_or os at d) ≡ object_at os fid
 found_at fid at os d e =

@@ -20,8 +20,8 @@ fn first_from(objects: &[Object], fid: u64) -> usize
     objects.partition_point(|o| o.fid < fid)
 }
 
-/// The index of the object with this number.
-fn index_of(objects: &[Object], fid: u64) -> Option<usize>
+/// The index of the object with this number, by halves.
+fn index_by_search(objects: &[Object], fid: u64) -> Option<usize>
     requires { AreRising 0 objects.now }
     ensures { result ≡ position (λ o. o.fid == fid) objects.now }
 {
@@ -33,6 +33,20 @@ fn index_of(objects: &[Object], fid: u64) -> Option<usize>
         return Some(at);
     }
     None
+}
+
+/// The index of the object with this number. Where no object went yet, it is one less.
+fn index_of(objects: &[Object], fid: u64) -> Option<usize>
+    requires { AreRising 0 objects.now }
+    ensures { result ≡ position (λ o. o.fid == fid) objects.now }
+{
+    let guess = fid.saturating_sub(1) as usize;
+    if guess < objects.len() {
+        if objects[guess].fid == fid {
+            return Some(guess);
+        }
+    }
+    index_by_search(objects, fid)
 }
 
 /// The object with this number.
