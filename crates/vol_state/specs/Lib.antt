@@ -1,0 +1,16 @@
+pub mod Rows
+pub mod Options
+pub mod Places
+pub mod Paths
+pub mod Tree
+pub mod State
+pub mod Numbers
+pub mod Effects
+pub mod Conditions
+pub mod Replica
+pub mod Journal
+pub mod Valid
+pub mod Hints
+pub mod Laws
+pub mod Seen
+pub mod Maps

@@ -1,0 +1,137 @@
+// The journal of a volume.
+ghost use Rattle.std.specs.Prelude.{◌≡◌, ◌<◌, ◌==◌, ◌&&◌, ◌∷◌, ◌++◌, [], true, ◌+◌, length, OnOk, find, option_copied, slice_get};
+ghost use Rattle.frs_base.specs.Versions.{same_uid};
+ghost use Rattle.vol_state.specs.Rows.{items_of, room_of};
+ghost use Rattle.vol_state.specs.Journal.{RunsFrom, last_local, record_at};
+
+use crate::VolRecord;
+use crate::rows::{items, push_reserved, reserve_one};
+use frs_base::Uid;
+use std::alloc::{AllocError, Global};
+use std::marker::Model;
+
+/// The first USN.
+pub(crate) const FIRST_USN: u64 = 9;
+
+/// The records, oldest first.
+///
+/// A contract sees the records, and for how many more there is room.
+#[derive(Drop)]
+pub(crate) struct Journal {
+    records: Option<Vec<VolRecord>>,
+    // Whether the USNs run from the first without a gap: then a record's place tells its USN.
+    runs: bool,
+}
+
+impl Model for Journal {
+    ghost use Rattle.std.specs.Prelude.{◌≡◌, true};
+    ghost use Rattle.vol_state.specs.Rows.{items_of, room_of};
+    ghost use Rattle.vol_state.specs.Seen.{Logged};
+    ghost use Rattle.vol_state.specs.Journal.{RunsFrom};
+
+    ghost Value = { Logged };
+
+    ghost view = { λ journal. record { items = items_of journal.records; room = room_of journal.records } };
+
+    ghost invariant = { λ journal. journal.runs ≡ true → RunsFrom 9 (items_of journal.records) };
+}
+
+/// The record at an index.
+fn get(records: &[VolRecord], index: usize) -> Option<&VolRecord>
+    ensures { option_copied result ≡ slice_get records.now index }
+{
+    records.get(index)
+}
+
+/// The record with a USN, where they run from the first.
+fn record_by_index(records: &[VolRecord], usn: u64) -> Option<&VolRecord>
+    requires { RunsFrom 9 records.now }
+    ensures { option_copied result ≡ record_at records.now usn }
+{
+    if usn < FIRST_USN {
+        return None;
+    }
+    get(records, (usn - FIRST_USN) as usize)
+}
+
+/// The record is a local one of this UID.
+fn is_local_of(entry: &VolRecord, uid: &Uid) -> bool
+    ensures { result ≡ (entry.now.local && same_uid entry.now.uid uid.now) }
+{
+    entry.local && entry.uid == *uid
+}
+
+/// The USN of the last local record of a UID. The newest records are looked at first.
+fn last_local(records: &[VolRecord], uid: Uid) -> Option<u64>
+    ensures { result ≡ last_local records.now uid }
+{
+    let mut left = records.len();
+    while left > 0 {
+        left -= 1;
+        let record = &records[left];
+        if is_local_of(record, &uid) {
+            return Some(record.usn);
+        }
+    }
+    None
+}
+
+/// The USNs run, and a record with this one goes on.
+fn runs_on(runs: bool, records: &[VolRecord], usn: u64) -> bool
+    ensures { result ≡ (runs && usn == 9 + length records.now) }
+{
+    runs && usn == FIRST_USN + records.len() as u64
+}
+
+impl Journal {
+    /// No records.
+    pub(crate) fn empty() -> Journal
+        ensures { result.items ≡ [] }
+    {
+        Journal {
+            records: None,
+            runs: true,
+        }
+    }
+
+    /// The records, lent.
+    pub(crate) fn as_slice(&self) -> &[VolRecord]
+        ensures { result.now ≡ self.now.items }
+    {
+        items(&self.records)
+    }
+
+    /// The first record with this USN.
+    pub(crate) fn record_at(&self, usn: u64) -> Option<&VolRecord>
+        ensures { option_copied result ≡ record_at self.now.items usn }
+    {
+        if self.runs {
+            return record_by_index(items(&self.records), usn);
+        }
+        self.as_slice().iter().find(|record| record.usn == usn)
+    }
+
+    /// The USN of the last local record of a UID.
+    pub(crate) fn last_local(&self, uid: Uid) -> Option<u64>
+        ensures { result ≡ last_local self.now.items uid }
+    {
+        last_local(self.as_slice(), uid)
+    }
+
+    /// Makes room for one more record.
+    pub(crate) fn reserve(&mut self, alloc: Global) -> Result<(), AllocError>
+        ensures same { self.new.items ≡ self.old.items }
+        ensures room { OnOk result (0 < self.new.room) }
+    {
+        reserve_one(alloc, &mut self.records)
+    }
+
+    /// Adds a record, for which there is room.
+    pub(crate) fn push(&mut self, entry: VolRecord)
+        requires { 0 < self.old.room }
+        ensures { self.new.items ≡ self.old.items ++ entry ∷ [] }
+    {
+        self.runs = runs_on(self.runs, items(&self.records), entry.usn);
+        push_reserved(&mut self.records, entry);
+    }
+}

@@ -1,0 +1,27 @@
+// Laws of the definitions.
+ghost use Rattle.vol_state.specs.Laws.{KeepsNumbering, LeavesNumbersFree};
+ghost use Rattle.vol_state.specs.Maps.{BeginsStanding, StandsOn};
+
+/// USNs that run from 9 without a gap go on so, whatever the command: a fact of volumes that began
+/// fresh, which no type keeps.
+pub fn steps_keep_the_numbering()
+    ensures { KeepsNumbering }
+{}
+
+/// Where the numbers in use are below the next ones, they stay so, but for a command that makes an
+/// object with a UID of the own database that isn't born yet. So a command that an operation
+/// resolves to is done until the numbers of 64 bits run out.
+pub fn steps_leave_numbers_free()
+    ensures { LeavesNumbersFree }
+{}
+
+/// A fresh volume stands for two empty maps.
+pub fn fresh_lists_stand_for_maps()
+    ensures { BeginsStanding }
+{}
+
+/// A volume that stands for two finite maps, of objects by number and of journal records by USN,
+/// goes on to: each command is one write of an object and of a record.
+pub fn lists_stand_for_maps()
+    ensures { StandsOn }
+{}

@@ -1,0 +1,258 @@
+use crate::{LocalOp, Object, Refused, VolCmd, Volume};
+use frs_base::{Bytes, Kind, List, Name, database_of};
+use std::alloc::Global;
+use std::process::Abort;
+use std::test::Fail;
+
+fn name_of(alloc: Global, text: &str) -> Result<Name, Fail> {
+    let mut units = Vec::new(alloc);
+    for byte in text.as_bytes() {
+        units.push(u16::from(*byte))?;
+    }
+    Ok(Name::from_units(alloc, &units)?)
+}
+
+/// The names between slashes; no text is no name.
+fn path_of(alloc: Global, text: &str) -> Result<List<Name>, Fail> {
+    let mut names = Vec::new(alloc);
+    if !text.is_empty() {
+        for part in text.split('/') {
+            names.push(name_of(alloc, part)?)?;
+        }
+    }
+    Ok(List::of(names))
+}
+
+/// The operation of a row: a put, a mkdir, a move or a remove.
+fn operation(alloc: Global, word: &str, from: &str, to: &str) -> Result<LocalOp, Fail> {
+    let path = path_of(alloc, from)?;
+    if word == "put" {
+        let bytes = Bytes::of(Vec::from_slice(alloc, to.as_bytes())?);
+        return Ok(LocalOp::Put { path, bytes });
+    }
+    if word == "mkdir" {
+        return Ok(LocalOp::Mkdir { path });
+    }
+    if word == "move" {
+        let to = path_of(alloc, to)?;
+        return Ok(LocalOp::Move { from: path, to });
+    }
+    Ok(LocalOp::Remove { path })
+}
+
+/// The command of an operation, or why it is refused.
+fn command(alloc: Global, volume: &Volume, op: LocalOp) -> Result<Result<VolCmd, Refused>, Fail> {
+    if let Err(refused) = volume.check(&op) {
+        return Ok(Err(refused));
+    }
+    let cmd = match op {
+        LocalOp::Put { path, bytes } => volume.put(alloc, path.as_slice(), bytes.into_vec())?,
+        LocalOp::Mkdir { path } => volume.mkdir(alloc, path.as_slice())?,
+        LocalOp::Move { from, to } => volume.move_to(alloc, from.as_slice(), to.as_slice())?,
+        LocalOp::Remove { path } => volume.remove(path.as_slice()),
+    };
+    Ok(Ok(cmd))
+}
+
+/// Does an operation, or says why it is refused.
+fn done(alloc: Global, volume: &mut Volume, op: LocalOp) -> Result<Option<Refused>, Fail> {
+    match command(alloc, volume, op)? {
+        Err(refused) => Ok(Some(refused)),
+        Ok(cmd) => {
+            let ready = volume.ready(alloc, cmd)?;
+            volume.take(ready);
+            Ok(None)
+        }
+    }
+}
+
+fn is_file_of(o: &Object, parent: u64, name: &Name, bytes: &[u8]) -> bool {
+    match &o.place {
+        None => false,
+        Some((at, own)) => {
+            *at == parent && own == name && o.kind == Kind::File && o.bytes.as_slice() == bytes
+        }
+    }
+}
+
+// Each row: an operation, its path, its text or second path, and what comes of it; `-` is nothing.
+
+/// At the root: no component, matching names, and a file on the way.
+const AT_THE_ROOT: &str = "put - 1 NoPath
+mkdir - - NoPath
+move - a NoPath
+remove - - NoPath
+put a 1 done
+put A 22 done
+mkdir a - NameTaken
+mkdir A - NameTaken
+put a/b 1 NotDirectory
+mkdir a/b - NotDirectory
+put d/x 1 NoPath";
+
+/// In a directory: the first component that is missing or a file decides.
+const IN_A_DIRECTORY: &str = "mkdir d - done
+put d 1 NameTaken
+put D 1 NameTaken
+put d/x 3 done
+mkdir D/e - done
+put d/E/f 4 done
+put d/q/f 1 NoPath
+put d/x/f 1 NotDirectory
+put q/d/f 1 NoPath
+mkdir a/q/f - NotDirectory";
+
+/// Removals, and moves of which all of `from` is looked at before `to`.
+const FROM_AND_TO: &str = "remove d - NotEmpty
+remove d/e - NotEmpty
+remove q - NoPath
+remove d/q - NoPath
+remove a/q - NotDirectory
+move q z NoPath
+move a/q z NotDirectory
+move a - NoPath
+move a q/z NoPath
+move a a/z NotDirectory
+move d/x a/z NotDirectory
+move q/z a/z NoPath
+move a/q q/z NotDirectory";
+
+/// Moves into and beneath itself, also where the name there is taken, onto a matching name, onto
+/// itself, and to another spelling of its own name.
+const ONTO_AND_BENEATH: &str = "move d d/z Looped
+move d d/e/z Looped
+move d D/E/F Looped
+move a d NameTaken
+move a D/X NameTaken
+move d/e d/x NameTaken
+move d d done
+move d/x d/x done
+move d/x d/X done";
+
+/// What moved is found where it is, and no longer where it was.
+const AFTER_MOVES: &str = "move d/e g done
+put g/f 55 done
+put d/e/f 1 NoPath
+remove g/f - done
+remove G - done
+remove g - NoPath
+move a d/a done
+move d/A b done";
+
+/// The refusal of a row.
+fn refusal(word: &str) -> Option<Refused> {
+    if word == "NoPath" {
+        return Some(Refused::NoPath);
+    }
+    if word == "NotDirectory" {
+        return Some(Refused::NotDirectory);
+    }
+    if word == "Looped" {
+        return Some(Refused::Looped);
+    }
+    if word == "NameTaken" {
+        return Some(Refused::NameTaken);
+    }
+    if word == "NotEmpty" {
+        return Some(Refused::NotEmpty);
+    }
+    None
+}
+
+/// A word of a row.
+fn word_of(word: Option<&str>) -> &str {
+    match word {
+        None => "",
+        Some(text) => { if text == "-" { "" } else { text } }
+    }
+}
+
+fn try_rows(rt: &impl Abort, alloc: Global, volume: &mut Volume, rows: &str) -> Result<(), Fail> {
+    for row in rows.split('\n') {
+        let mut words = row.split(' ');
+        let word = word_of(words.next());
+        let from = word_of(words.next());
+        let to = word_of(words.next());
+        let op = operation(alloc, word, from, to)?;
+        let wanted = refusal(word_of(words.next()));
+        assert_eq!(rt; done(alloc, volume, op)?, wanted, "{row}");
+    }
+    Ok(())
+}
+
+#[test]
+fn a_table_of_operations_and_refusals(rt: HostRuntime) -> Result<(), Fail> {
+    let alloc = rt.alloc();
+    let mut volume = Volume::new(database_of(1));
+    try_rows(&rt, alloc, &mut volume, AT_THE_ROOT)?;
+    try_rows(&rt, alloc, &mut volume, IN_A_DIRECTORY)?;
+    try_rows(&rt, alloc, &mut volume, FROM_AND_TO)?;
+    try_rows(&rt, alloc, &mut volume, ONTO_AND_BENEATH)?;
+    try_rows(&rt, alloc, &mut volume, AFTER_MOVES)?;
+    let objects = volume.objects();
+    assert_eq!(rt; objects.len(), 3);
+    assert!(rt; is_file_of(&objects[0], 0, &name_of(alloc, "b")?, b"22"));
+    assert!(rt; objects[1].kind == Kind::Directory && objects[1].fid == 2);
+    assert!(rt; is_file_of(&objects[2], 2, &name_of(alloc, "X")?, b"3"));
+    // Fifteen rows were done, from USN 9 on.
+    assert_eq!(rt; volume.next_usn(), 24);
+    Ok(())
+}
+
+#[test]
+fn contents_may_have_1_048_576_bytes(rt: HostRuntime) -> Result<(), Fail> {
+    let alloc = rt.alloc();
+    let mut volume = Volume::new(database_of(1));
+    let most = Bytes::of(vec![in alloc; 7; 1_048_576]?);
+    let path = path_of(alloc, "a")?;
+    let op = LocalOp::Put { path, bytes: most };
+    assert_eq!(rt; done(alloc, &mut volume, op)?, None);
+    for text in ["a", "", "q/a", "a/a"] {
+        let more = Bytes::of(vec![in alloc; 7; 1_048_577]?);
+        let path = path_of(alloc, text)?;
+        let op = LocalOp::Put { path, bytes: more };
+        assert_eq!(rt;
+            done(alloc, &mut volume, op)?,
+            Some(Refused::TooLarge { length: 1_048_577 })
+        );
+    }
+    Ok(())
+}
+
+#[test]
+fn a_path_may_have_64_components(rt: HostRuntime) -> Result<(), Fail> {
+    let alloc = rt.alloc();
+    let mut volume = Volume::new(database_of(1));
+    let mut text = String::from_str(alloc, "d")?;
+    for _ in 0..63 {
+        let op = operation(alloc, "mkdir", text.as_str(), "")?;
+        assert_eq!(rt; done(alloc, &mut volume, op)?, None);
+        text.push_str("/d")?;
+    }
+    let op = operation(alloc, "put", text.as_str(), "deep")?;
+    assert_eq!(rt; done(alloc, &mut volume, op)?, None);
+    let op = operation(alloc, "move", "d", text.as_str())?;
+    assert_eq!(rt; done(alloc, &mut volume, op)?, Some(Refused::Looped));
+    assert_eq!(rt; volume.objects().len(), 64);
+    Ok(())
+}
+
+#[test]
+fn refusals_say_why(rt: HostRuntime) -> Result<(), Fail> {
+    let alloc = rt.alloc();
+    let rows = [
+        (
+            Refused::TooLarge { length: 1_048_577 },
+            "1048577 bytes are too many for a file",
+        ),
+        (Refused::NoPath, "no such path"),
+        (Refused::NotDirectory, "a file in place of a directory"),
+        (Refused::Looped, "a directory can't be moved into itself"),
+        (Refused::NameTaken, "the name is taken"),
+        (Refused::NotEmpty, "the directory isn't empty"),
+    ];
+    for (refused, text) in rows {
+        assert_eq!(rt; refused.to_string(alloc)?.as_str(), text);
+    }
+    Ok(())
+}
