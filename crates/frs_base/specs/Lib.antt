@@ -1,3 +1,4 @@
+pub mod Options
 pub mod GuidBytes
 pub mod Identifiers
 pub mod Lazy

@@ -19,7 +19,7 @@ mod version;
 pub use bytes::Bytes;
 pub use guid::Guid;
 pub use identifiers::{connection_of, content_set, database_of, replica_set};
-pub use kind::{Kind, MemberKind};
+pub use kind::{Kind, MemberKind, Phase};
 pub use lazy_vec::LazyVec;
 pub use list::List;
 pub use name::{Name, NameError};

@@ -3,7 +3,7 @@ use Rattle.std.proofs.Common.{◌≡◌, ◌≤◌, ◌||◌, ℕ, zero, suc, Bo
 use Rattle.std.proofs.lemmas.Bool.Decides.{eqb_tells}
 use Rattle.vol_state.specs.declared.object.Object.{Object}
 use Rattle.vol_state.specs.Places.{object_at, above, above_it, is_under, ends_in}
-use Rattle.vol_state.specs.Options.{some_is, none_or}
+use Rattle.frs_base.specs.Options.{some_is, none_or}
 use Rattle.vol_state.specs.Effects.{without}
 use Rattle.vol_state.proofs.Climbing.{by_cases, Agree, above_ends, not_above, apart_from, avoids_in}
 use Rattle.vol_state.proofs.Finding.{at_without_other, length_without}

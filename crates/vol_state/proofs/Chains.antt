@@ -6,7 +6,7 @@ use Rattle.std.proofs.lemmas.List.{length-append}
 use Rattle.std.specs.Prelude.{IsSome, if◌then◌else◌}
 use Rattle.std.specs.HashMap.{HashMap}
 use Rattle.vol_state.specs.declared.hints.Link.{Link}
-use Rattle.vol_state.specs.Options.{In}
+use Rattle.frs_base.specs.Options.{In}
 use Rattle.vol_state.specs.Hints.{last_with, after_later, AreChained, IsThreaded, newest_of, newest_after, redirected, no_link, Leads, KeepsBut, head_of, head_at}
 use Rattle.vol_state.proofs.Climbing.{by_cases}
 

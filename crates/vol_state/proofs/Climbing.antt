@@ -3,7 +3,7 @@ use Rattle.std.proofs.Common.{◌≡◌, ◌≢◌, ◌≤◌, ◌||◌, ◌⊎�
 use Rattle.std.proofs.lemmas.Bool.Decides.{nat_tests, eqb_tells}
 use Rattle.vol_state.specs.declared.object.Object.{Object}
 use Rattle.vol_state.specs.Places.{above, is_under, ends_in}
-use Rattle.vol_state.specs.Options.{some_is, none_or}
+use Rattle.frs_base.specs.Options.{some_is, none_or}
 use Rattle.vol_state.specs.Tree.{Ends}
 
 pub by_cases : {A B C : Type 0} → A ⊎ B → (A → C) → (B → C) → C

@@ -4,7 +4,7 @@ use Rattle.std.proofs.lemmas.Bool.Decides.{nat_tests, eqb_tells}
 use Rattle.vol_state.specs.declared.object.Object.{Object}
 use Rattle.vol_state.specs.Places.{object_at}
 use Rattle.vol_state.specs.Tree.{AreRising}
-use Rattle.vol_state.specs.Options.{In}
+use Rattle.frs_base.specs.Options.{In}
 use Rattle.vol_state.specs.Effects.{edit, without}
 use Rattle.vol_state.proofs.Climbing.{differ, by_cases}
 

@@ -4,7 +4,7 @@ use Rattle.std.proofs.lemmas.Bool.Decides.{nat_tests, eqb_tells}
 use Rattle.std.proofs.lemmas.Bool.{false≢true}
 use Rattle.vol_state.specs.declared.object.Object.{Object}
 use Rattle.vol_state.specs.declared.hints.Link.{Link}
-use Rattle.vol_state.specs.Options.{In, some_is}
+use Rattle.frs_base.specs.Options.{In, some_is}
 use Rattle.vol_state.specs.Tree.{IsTree}
 use Rattle.vol_state.specs.Hints.{AreHinted, IsShelf, KeepsBut, Leads, LeadsFrom, head_of, is_keyed, key_of, place_keys, uid_key, uid_keys}
 use Rattle.vol_state.specs.Effects.{at_place, edit, stamp, with_bytes, without}

@@ -14,7 +14,7 @@ use Rattle.vol_state.specs.Journal.{IsNumbered}
 use Rattle.vol_state.specs.Numbers.{own_version, has_usn, has_fid, has_numbers}
 use Rattle.vol_state.specs.Effects.{logged, added, edited, gone, effect, new_object, at_place, with_bytes}
 use Rattle.vol_state.specs.Conditions.{is_allowed, is_within, is_file, is_placed, is_in_limbo, is_open_object, can_move, can_stand}
-use Rattle.vol_state.specs.Options.{some_is}
+use Rattle.frs_base.specs.Options.{some_is}
 use Rattle.vol_state.specs.Places.{object_at, has_children, is_reached}
 use Rattle.vol_state.specs.Laws.{KeepsNumbering, AreFree, IsBorn, IsInTime, LeavesNumbersFree}
 use Rattle.vol_state.proofs.Climbing.{by_cases}

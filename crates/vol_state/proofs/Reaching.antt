@@ -6,7 +6,7 @@ use Rattle.frs_base.specs.Names.{matches}
 use Rattle.vol_state.specs.declared.object.Object.{Object}
 use Rattle.vol_state.specs.declared.operation.Refused.{Refused}
 use Rattle.vol_state.specs.declared.operation.Refused.TheVariants.{NotDirectory}
-use Rattle.vol_state.specs.Options.{In, some_is, none_or}
+use Rattle.frs_base.specs.Options.{In, some_is, none_or}
 use Rattle.vol_state.specs.Places.{object_at, above, above_it, is_directory, is_directory_at, is_child, child, is_under, is_beneath, is_reached, ends_in}
 use Rattle.vol_state.specs.Paths.{then_, present, entered, walk, home, last_name, target}
 use Rattle.vol_state.specs.Tree.{IsTree, Ends}

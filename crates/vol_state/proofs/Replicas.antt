@@ -6,7 +6,7 @@ use Rattle.frs_base.specs.Versions.{same_uid}
 use Rattle.vol_state.specs.declared.object.Object.{Object}
 use Rattle.vol_state.specs.declared.command.VolCmd.{VolCmd}
 use Rattle.vol_state.specs.declared.command.VolCmd.TheVariants as cmd
-use Rattle.vol_state.specs.Options.{some_is}
+use Rattle.frs_base.specs.Options.{some_is}
 use Rattle.vol_state.specs.Places.{object_at, has_children}
 use Rattle.vol_state.specs.State.{State, uid_of, object_of}
 use Rattle.vol_state.specs.Conditions.{is_allowed, is_placed, is_in_limbo, is_file, can_stand, can_make}

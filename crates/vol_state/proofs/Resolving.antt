@@ -8,7 +8,7 @@ use Rattle.vol_state.specs.declared.operation.LocalOp.TheVariants as op
 use Rattle.vol_state.specs.declared.operation.Refused.TheVariants.{TooLarge, Looped, NameTaken, NotEmpty}
 use Rattle.vol_state.specs.declared.command.VolCmd.{VolCmd}
 use Rattle.vol_state.specs.declared.command.VolCmd.TheVariants.{PutNew, PutOver, Mkdir, Move, Remove}
-use Rattle.vol_state.specs.Options.{none_or}
+use Rattle.frs_base.specs.Options.{none_or}
 use Rattle.vol_state.specs.Places.{object_at, is_directory, child, has_children, is_beneath, is_reached}
 use Rattle.vol_state.specs.Paths.{then_, home, last_name, largest, put_over, make_over, move_over, target, resolve_put, resolve_mkdir, resolve_move, resolve_remove, resolve}
 use Rattle.vol_state.specs.State.{State}

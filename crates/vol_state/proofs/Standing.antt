@@ -8,7 +8,7 @@ use Rattle.frs_base.specs.declared.version.Uid.{Uid}
 use Rattle.vol_state.specs.declared.object.Object.{Object}
 use Rattle.vol_state.specs.declared.record.VolRecord.{VolRecord}
 use Rattle.vol_state.specs.declared.command.VolCmd.TheVariants.{PutNew, PutOver, Mkdir, Move, Remove, Park, Erase, Make, Rewrite, Place}
-use Rattle.vol_state.specs.Options.{some_is}
+use Rattle.frs_base.specs.Options.{some_is}
 use Rattle.vol_state.specs.Places.{object_at, has_children, is_reached}
 use Rattle.vol_state.specs.State.{State, uid_of}
 use Rattle.vol_state.specs.Journal.{record_at}
@@ -59,13 +59,12 @@ entries_logged v m free s fid uid uid' op local same n =
     let whole : ℕ → Uid → Option VolRecord = λ u i. if eqb n u then Some (record { usn = u; fid = fid; uid = i; op = op; local = local }) else m.entry n in
     ap (λ u. whole u uid') s.next_usn ∙ ap (whole v.next_usn) same ∙ ap (λ x. if eqb n v.next_usn then Some r else x) (s.entries n) ∙ sym (record_push v.journal r n (records_below v free))
 
-stands_made : (op : ℕ) (local : Bool) (place : Option (ℕ × List ℕ)) (kind : Kind) (bytes : List ℕ) (tag : Option Uid) (v : State) (m : Maps) → AreFree v → Stands v m → Stands (added op local (new_object v place kind bytes tag local) v) (makes op local place kind bytes tag m)
+stands_made : (op : ℕ) (local : Bool) (place : Option (ℕ × List ℕ)) (kind : Kind) (bytes : List ℕ) (tag : Option Uid) (v : State) (m : Maps) → AreFree v → Stands v m → Stands (added op local (new_object v place kind bytes tag local) v) (makes v.own op local place kind bytes tag m)
 stands_made op local place kind bytes tag v m free s = record {
-  own = s.own;
   objects = λ k. by_cases (eqb_tells k m.next_fid)
       (λ t. rw t.0 (ap Some made ∙ sym (ap (object_at (v.objects ++ o ∷ [])) (t.1 ∙ s.next_fid) ∙ at_new o v.objects (nobody_next v free))))
       (λ t. rw t.0 (s.objects k ∙ sym (at_push_other o k (λ e. t.1 (e ∙ sym s.next_fid)) v.objects)));
-  entries = λ n. ap (λ f. with_at m.entry m.next_usn (Some (record { usn = m.next_usn; fid = f; uid = uid_of m.own new; op = op; local = local })) n) s.next_fid ∙ entries_logged v m free s v.next_fid (uid_of v.own o) (uid_of m.own new) op local uids n;
+  entries = λ n. ap (λ f. with_at m.entry m.next_usn (Some (record { usn = m.next_usn; fid = f; uid = uid_of v.own new; op = op; local = local })) n) s.next_fid ∙ entries_logged v m free s v.next_fid (uid_of v.own o) (uid_of v.own new) op local uids n;
   next_fid = let e = s.next_fid in omega arith;
   next_usn = ap (λ n. n + 1) s.next_usn;
 }
@@ -82,16 +81,15 @@ stands_made op local place kind bytes tag v m free s = record {
     made : new ≡ o
     made = ap (λ f. as_new f m.next_usn) s.next_fid ∙ ap (as_new v.next_fid) s.next_usn
 
-    uids : uid_of m.own new ≡ uid_of v.own o
-    uids = ap (λ w. uid_of w new) s.own ∙ ap (uid_of v.own) made
+    uids : uid_of v.own new ≡ uid_of v.own o
+    uids = ap (uid_of v.own) made
 
-stands_changed : (op : ℕ) (local : Bool) (fid : ℕ) (f : Object → Object) (o : Object) (v : State) (m : Maps) → ((x : Object) → (f x).fid ≡ x.fid) → object_at v.objects fid ≡ Some o → AreFree v → Stands v m → Stands (edited op local fid f v) (changes op local fid f m)
+stands_changed : (op : ℕ) (local : Bool) (fid : ℕ) (f : Object → Object) (o : Object) (v : State) (m : Maps) → ((x : Object) → (f x).fid ≡ x.fid) → object_at v.objects fid ≡ Some o → AreFree v → Stands v m → Stands (edited op local fid f v) (changes v.own op local fid f m)
 stands_changed op local fid f o v m keeps at free s = record {
-  own = s.own;
   objects = λ k. by_cases (eqb_tells k fid)
       (λ t. rw t.0 (ap (option_map (λ x. stamp local m.next_usn (f x))) there ∙ ap (λ u. Some (stamp local u (f o))) s.next_usn ∙ sym (ap (object_at (edit fid g v.objects)) t.1 ∙ at_edit_same g keeps fid o v.objects at)))
       (λ t. rw t.0 (s.objects k ∙ sym (at_edit_other g keeps fid k t.1 v.objects)));
-  entries = entries_logged v m free s fid (uid_at v fid) (uid_found m.own (m.at fid)) op local (ap (λ w. uid_found w (m.at fid)) s.own ∙ ap (uid_found v.own) (s.objects fid));
+  entries = entries_logged v m free s fid (uid_at v fid) (uid_found v.own (m.at fid)) op local (ap (uid_found v.own) (s.objects fid));
   next_fid = let e = s.next_fid in let l = objects_below v free fid o at in omega arith;
   next_usn = ap (λ n. n + 1) s.next_usn;
 }
@@ -102,13 +100,12 @@ stands_changed op local fid f o v m keeps at free s = record {
     there : m.at fid ≡ Some o
     there = s.objects fid ∙ at
 
-stands_gone : (op : ℕ) (local : Bool) (fid : ℕ) (o : Object) (v : State) (m : Maps) → IsVolume v → object_at v.objects fid ≡ Some o → AreFree v → Stands v m → Stands (gone op local fid v) (loses op local fid m)
+stands_gone : (op : ℕ) (local : Bool) (fid : ℕ) (o : Object) (v : State) (m : Maps) → IsVolume v → object_at v.objects fid ≡ Some o → AreFree v → Stands v m → Stands (gone op local fid v) (loses v.own op local fid m)
 stands_gone op local fid o v m h at free s = record {
-  own = s.own;
   objects = λ k. by_cases (eqb_tells k fid)
       (λ t. rw t.0 (sym (ap (object_at (without fid v.objects)) t.1 ∙ at_without_same 0 fid v.objects h.tree.rising)))
       (λ t. rw t.0 (s.objects k ∙ sym (at_without_other fid k t.1 v.objects)));
-  entries = entries_logged v m free s fid (uid_at v fid) (uid_found m.own (m.at fid)) op local (ap (λ w. uid_found w (m.at fid)) s.own ∙ ap (uid_found v.own) (s.objects fid));
+  entries = entries_logged v m free s fid (uid_at v fid) (uid_found v.own (m.at fid)) op local (ap (uid_found v.own) (s.objects fid));
   next_fid = let e = s.next_fid in let l = objects_below v free fid o at in omega arith;
   next_usn = ap (λ n. n + 1) s.next_usn;
 }
@@ -141,4 +138,4 @@ stands_on (Place fid parent name) v m h free a s =
     stands_changed 10 false fid (at_place (Some (parent, name))) t.0 v m (λ x. refl) t.1 free s
 
 pub begins_standing : BeginsStanding
-begins_standing own = record { own = refl; objects = λ fid. refl; entries = λ usn. refl; next_fid = refl; next_usn = refl }
+begins_standing own = record { objects = λ fid. refl; entries = λ usn. refl; next_fid = refl; next_usn = refl }

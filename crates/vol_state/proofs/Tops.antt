@@ -4,7 +4,7 @@ use Rattle.std.proofs.lemmas.Bool.Decides.{nat_tests, eqb_tells}
 use Rattle.vol_state.specs.declared.object.Object.{Object}
 use Rattle.vol_state.specs.declared.record.VolRecord.{VolRecord}
 use Rattle.vol_state.specs.Places.{object_at}
-use Rattle.vol_state.specs.Options.{In}
+use Rattle.frs_base.specs.Options.{In}
 use Rattle.vol_state.specs.State.{State, uid_of}
 use Rattle.vol_state.specs.Numbers.{greatest, greatest_fid, greatest_usn, own_version, usn_in, has_usn, has_fid}
 use Rattle.vol_state.specs.Effects.{edit, without, stamp, uid_at, added, edited, gone}

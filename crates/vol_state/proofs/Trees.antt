@@ -5,7 +5,7 @@ use Rattle.std.specs.Prelude.{option_map}
 use Rattle.std.proofs.lemmas.Bool.{false≢true}
 use Rattle.frs_base.specs.Names.{matches}
 use Rattle.vol_state.specs.declared.object.Object.{Object}
-use Rattle.vol_state.specs.Options.{some_is, none_or, In}
+use Rattle.frs_base.specs.Options.{some_is, none_or, In}
 use Rattle.vol_state.specs.Places.{object_at, above, above_it, is_under, ends_in, is_directory, is_directory_at, is_child, has_children}
 use Rattle.vol_state.specs.Tree.{AreRising, IsHome, Ends, IsTree}
 use Rattle.vol_state.specs.Effects.{edit, without}

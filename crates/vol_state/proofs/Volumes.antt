@@ -12,7 +12,7 @@ use Rattle.frs_base.specs.Versions.{same_uid}
 use Rattle.vol_state.specs.declared.object.Object.{Object}
 use Rattle.vol_state.specs.declared.command.VolCmd.{VolCmd}
 use Rattle.vol_state.specs.declared.command.VolCmd.TheVariants.{PutNew, PutOver, Mkdir, Move, Remove, Park, Erase, Make, Rewrite, Place}
-use Rattle.vol_state.specs.Options.{In, some_is, none_or}
+use Rattle.frs_base.specs.Options.{In, some_is, none_or}
 use Rattle.vol_state.specs.Places.{object_at, is_directory, is_directory_at, is_child, child, has_children, is_beneath, is_reached}
 use Rattle.vol_state.specs.Tree.{IsHome, IsTree}
 use Rattle.vol_state.specs.State.{State, uid_of, object_of}

@@ -10,7 +10,7 @@ use Rattle.frs_base.specs.Names.{matches, fold_unit}
 use Rattle.frs_base.specs.Versions.{same_uid}
 use Rattle.vol_state.specs.declared.object.Object.{Object}
 use Rattle.vol_state.specs.declared.hints.Link.{Link}
-use Rattle.vol_state.specs.Options.{In, some_is, kept_if}
+use Rattle.frs_base.specs.Options.{In, some_is, kept_if}
 use Rattle.vol_state.specs.Places.{object_at, is_child, child}
 use Rattle.vol_state.specs.Tree.{IsTree}
 use Rattle.vol_state.specs.State.{IsOneEach, uid_of}

@@ -7,7 +7,7 @@ use Rattle.frs_base.specs.declared.version.Uid.{Uid}
 use Rattle.vol_state.specs.declared.object.Object.{Object}
 use Rattle.vol_state.specs.declared.command.VolCmd.{VolCmd}
 use Rattle.vol_state.specs.declared.command.VolCmd.TheVariants.{PutNew, PutOver, Mkdir, Move, Remove, Park, Erase, Make, Rewrite, Place}
-use Rattle.vol_state.specs.Options.{some_is, none_or}
+use Rattle.frs_base.specs.Options.{some_is, none_or}
 use Rattle.vol_state.specs.Places.{is_directory, is_directory_at, object_at, child, has_children, is_beneath, is_reached}
 use Rattle.vol_state.specs.Paths.{largest}
 use Rattle.vol_state.specs.State.{State, object_of}

@@ -5,7 +5,7 @@ use Rattle.frs_base.specs.Names.{fold_unit}
 use Rattle.frs_base.specs.declared.version.Uid.{Uid}
 use Rattle.vol_state.specs.declared.object.Object.{Object}
 use Rattle.vol_state.specs.declared.hints.Link.{Link}
-use Rattle.vol_state.specs.Options.{In, some_is}
+use Rattle.frs_base.specs.Options.{In, some_is}
 use Rattle.vol_state.specs.Places.{object_at}
 use Rattle.vol_state.specs.Tree.{IsTree}
 use Rattle.vol_state.specs.State.{uid_of}

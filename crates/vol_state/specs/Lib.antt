@@ -1,5 +1,4 @@
 pub mod Rows
-pub mod Options
 pub mod Places
 pub mod Paths
 pub mod Tree
@@ -14,3 +13,4 @@ pub mod Hints
 pub mod Laws
 pub mod Seen
 pub mod Maps
+pub mod Tables

@@ -22,7 +22,6 @@ with_at f k x j = if j == k then x else f j
 
 -- objects by number, journal records by USN, and the numbers that come next
 pub record Maps : Type 0 where
-  pub own : ℕ
   pub at : ℕ → Option Object
   pub entry : ℕ → Option VolRecord
   pub next_fid : ℕ
@@ -37,49 +36,52 @@ written m fid o uid op local = record m {
   next_usn = m.next_usn + 1;
 }
 
--- an object is made, with the next number
-abbrev pub makes : ℕ → Bool → Option (ℕ × List ℕ) → Kind → List ℕ → Option Uid → Maps → Maps
-makes op local place kind bytes tag m =
+-- an object is made, with the next number, in the volume of this database
+abbrev pub makes : ℕ → ℕ → Bool → Option (ℕ × List ℕ) → Kind → List ℕ → Option Uid → Maps → Maps
+makes own op local place kind bytes tag m =
     let o : Object = record { fid = m.next_fid; place = place; kind = kind; bytes = bytes; sum = no_sum; born = m.next_usn; tag = tag; last_local = if local then m.next_usn else 0 } in
-    written m m.next_fid (Some o) (uid_of m.own o) op local
+    written m m.next_fid (Some o) (uid_of own o) op local
 
 -- an object is changed by f
-abbrev pub changes : ℕ → Bool → ℕ → (Object → Object) → Maps → Maps
-changes op local fid f m = written m fid (option_map (λ o. stamp local m.next_usn (f o)) (m.at fid)) (uid_found m.own (m.at fid)) op local
+abbrev pub changes : ℕ → ℕ → Bool → ℕ → (Object → Object) → Maps → Maps
+changes own op local fid f m = written m fid (option_map (λ o. stamp local m.next_usn (f o)) (m.at fid)) (uid_found own (m.at fid)) op local
 
 -- an object goes
-abbrev pub loses : ℕ → Bool → ℕ → Maps → Maps
-loses op local fid m = written m fid None (uid_found m.own (m.at fid)) op local
+abbrev pub loses : ℕ → ℕ → Bool → ℕ → Maps → Maps
+loses own op local fid m = written m fid None (uid_found own (m.at fid)) op local
 
--- each command is one write
-abbrev pub write : VolCmd → Maps → Maps
-write (PutNew parent name bytes) m = makes 1 true (Some (parent, name)) File bytes None m
-write (PutOver fid bytes) m = changes 2 true fid (with_bytes bytes) m
-write (Mkdir parent name) m = makes 3 true (Some (parent, name)) Directory [] None m
-write (Move fid parent name) m = changes 4 true fid (at_place (Some (parent, name))) m
-write (Remove fid) m = loses 5 true fid m
-write (Park fid) m = changes 6 false fid (at_place None) m
-write (Erase fid) m = loses 7 false fid m
-write (Make uid kind bytes) m = makes 8 false None kind bytes (Some uid) m
-write (Rewrite fid bytes) m = changes 9 false fid (with_bytes bytes) m
-write (Place fid parent name) m = changes 10 false fid (at_place (Some (parent, name))) m
+-- each command is one write in the volume of this database
+abbrev pub write : ℕ → VolCmd → Maps → Maps
+write own (PutNew parent name bytes) m = makes own 1 true (Some (parent, name)) File bytes None m
+write own (PutOver fid bytes) m = changes own 2 true fid (with_bytes bytes) m
+write own (Mkdir parent name) m = makes own 3 true (Some (parent, name)) Directory [] None m
+write own (Move fid parent name) m = changes own 4 true fid (at_place (Some (parent, name))) m
+write own (Remove fid) m = loses own 5 true fid m
+write own (Park fid) m = changes own 6 false fid (at_place None) m
+write own (Erase fid) m = loses own 7 false fid m
+write own (Make uid kind bytes) m = makes own 8 false None kind bytes (Some uid) m
+write own (Rewrite fid bytes) m = changes own 9 false fid (with_bytes bytes) m
+write own (Place fid parent name) m = changes own 10 false fid (at_place (Some (parent, name))) m
 
 -- lists stand for maps: the same objects and records are found
 pub record Stands (v : State) (m : Maps) : Type 0 where
-  pub own : m.own ≡ v.own
   pub objects : (fid : ℕ) → m.at fid ≡ object_at v.objects fid
   pub entries : (usn : ℕ) → m.entry usn ≡ record_at v.journal usn
   pub next_fid : m.next_fid ≡ v.next_fid
   pub next_usn : m.next_usn ≡ v.next_usn
 
+-- the maps that lists stand for
+abbrev pub maps_of : State → Maps
+maps_of v = record { at = object_at v.objects; entry = record_at v.journal; next_fid = v.next_fid; next_usn = v.next_usn }
+
 -- lists that stand for maps go on to, by each command whose condition holds
 abbrev pub StandsOn : Type 0
-StandsOn = (cmd : VolCmd) (v : State) (m : Maps) → IsVolume v → AreFree v → is_allowed cmd v ≡ true → Stands v m → Stands (effect cmd v) (write cmd m)
+StandsOn = (cmd : VolCmd) (v : State) (m : Maps) → IsVolume v → AreFree v → is_allowed cmd v ≡ true → Stands v m → Stands (effect cmd v) (write v.own cmd m)
 
 -- a volume with nothing in it
-abbrev pub fresh_maps : ℕ → Maps
-fresh_maps own = record { own = own; at = λ fid. None; entry = λ usn. None; next_fid = 1; next_usn = 9 }
+abbrev pub fresh_maps : Maps
+fresh_maps = record { at = λ fid. None; entry = λ usn. None; next_fid = 1; next_usn = 9 }
 
 -- fresh lists stand for fresh maps
 abbrev pub BeginsStanding : Type 0
-BeginsStanding = (own : ℕ) → Stands (fresh_state own) (fresh_maps own)
+BeginsStanding = (own : ℕ) → Stands (fresh_state own) fresh_maps

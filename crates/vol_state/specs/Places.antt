@@ -5,7 +5,7 @@ use Rattle.frs_base.specs.declared.kind.Kind.{Kind}
 use Rattle.frs_base.specs.declared.kind.Kind.TheVariants.{File, Directory}
 use Rattle.frs_base.specs.Names.{matches}
 use Rattle.vol_state.specs.declared.object.Object.{Object}
-use Rattle.vol_state.specs.Options.{some_is, none_or}
+use Rattle.frs_base.specs.Options.{some_is, none_or}
 
 -- the kind of a directory
 abbrev pub is_directory : Kind → Bool

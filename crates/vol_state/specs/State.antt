@@ -4,7 +4,7 @@ use Rattle.frs_base.specs.declared.version.Uid.{Uid}
 use Rattle.frs_base.specs.Versions.{same_uid}
 use Rattle.vol_state.specs.declared.object.Object.{Object}
 use Rattle.vol_state.specs.declared.record.VolRecord.{VolRecord}
-use Rattle.vol_state.specs.Options.{In}
+use Rattle.frs_base.specs.Options.{In}
 
 -- its own database, its objects in order of their numbers, its journal, and the numbers that come next
 pub record State : Type 0 where

@@ -1,7 +1,7 @@
 -- What is true of the objects of every volume.
 use Rattle.std.specs.Prelude.{⊤, ◌≡◌, ◌<◌, ℕ, true, List, [], ◌∷◌, Option, Some, None}
 use Rattle.vol_state.specs.declared.object.Object.{Object}
-use Rattle.vol_state.specs.Options.{In}
+use Rattle.frs_base.specs.Options.{In}
 use Rattle.vol_state.specs.Places.{is_directory_at, is_child, ends_in}
 
 -- each number is above those before it, and above low

@@ -1,6 +1,6 @@
 // The conditions of commands.
 ghost use Rattle.std.specs.Prelude.{◌≡◌, ◌&&◌, not};
-ghost use Rattle.vol_state.specs.Options.{some_is};
+ghost use Rattle.frs_base.specs.Options.{some_is};
 ghost use Rattle.vol_state.specs.Places.{has_children, is_reached, object_at};
 ghost use Rattle.vol_state.specs.Conditions.{can_move, can_stand, is_file, is_free, is_in_limbo, is_open, is_open_object, is_placed, is_within, root_uid};
 

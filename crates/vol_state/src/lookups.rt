@@ -1,7 +1,7 @@
 // Objects found by hints.
 ghost use Rattle.std.specs.Prelude.{◌≡◌, ◌<◌, Some, option_copied, find};
 ghost use Rattle.frs_base.specs.Versions.{same_uid};
-ghost use Rattle.vol_state.specs.Options.{kept_if, some_is};
+ghost use Rattle.frs_base.specs.Options.{kept_if, some_is};
 ghost use Rattle.vol_state.specs.Places.{child, is_child, object_at};
 ghost use Rattle.vol_state.specs.Tree.{IsTree};
 ghost use Rattle.vol_state.specs.State.{IsOneEach, uid_of};

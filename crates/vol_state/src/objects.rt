@@ -4,7 +4,7 @@ ghost use Rattle.std.specs.List.Sorted.{IsPartitionPoint};
 ghost use Rattle.vol_state.specs.Rows.{items_of};
 ghost use Rattle.vol_state.specs.Places.{has_children, is_child, object_at};
 ghost use Rattle.vol_state.specs.Tree.{AreRising, IsTree};
-ghost use Rattle.vol_state.specs.Options.{some_is};
+ghost use Rattle.frs_base.specs.Options.{some_is};
 ghost use Rattle.vol_state.specs.Conditions.{is_file};
 ghost use Rattle.vol_state.specs.Effects.{at_place, edit, stamp, with_bytes, without};
 
