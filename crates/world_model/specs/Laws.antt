@@ -1,0 +1,186 @@
+-- What holds of every run.
+use Rattle.std.specs.Prelude.{◌≡◌, ◌≢◌, ◌↔◌, ◌<◌, ◌≤◌, ◌-◌, ◌+◌, ℕ, true, false, All, List, Option, Some, length, sum_by}
+use Rattle.frs_base.specs.Options.{In}
+use Rattle.frs_base.specs.declared.kind.Kind.{Kind}
+use Rattle.frs_base.specs.declared.kind.Kind.TheVariants.{File}
+use Rattle.frs_base.specs.declared.kind.MemberKind.{MemberKind}
+use Rattle.frs_base.specs.declared.sum.Sum.{Sum}
+use Rattle.frs_base.specs.declared.version.Gvsn.{Gvsn}
+use Rattle.frs_base.specs.declared.version.Uid.{Uid}
+use Rattle.win_order.specs.declared.update.Update.{Update}
+use Rattle.vol_state.specs.declared.object.Object.{Object}
+use Rattle.vol_state.specs.declared.command.VolCmd.{VolCmd}
+use Rattle.vol_state.specs.State.{uid_of}
+use Rattle.vol_state.specs.Tables.{IsAt, IsReplica}
+use Rattle.record_db.specs.Records.{Versions, Covered, IsHeld, IsHeldOrBeaten, IsRecord}
+use Rattle.name_rules.specs.Tree.{IsRow, IsVolumeRow, kind_of}
+use Rattle.name_rules.specs.Next.{IsCandidate, IsDrained, IsDue, IsPending, IsQuiet, IsStepOf, IsTurn, Step as InstallStep, content_sum}
+use Rattle.world_model.specs.World.{Member, World, SentVector, IsConsumed, IsRecordOf, fresh_world}
+use Rattle.world_model.specs.Events.{Event, Step, Adopt, Install, Unstage, IsAllHeld}
+use Rattle.world_model.specs.Runs.{CoversAlike, Grows, Happening, Run}
+use Rattle.world_model.specs.Invariant.{Invariant, SentIsKnown, VersionsAreMade}
+use Rattle.world_model.specs.Folder.{FolderIsSound, FoldersStaySound}
+use Rattle.world_model.specs.Rounds.{GoesOn, MayFinish, Polls, Round, RoundIsTrue}
+use Rattle.world_model.specs.Due.{Lowers, Sees, View, due}
+use Rattle.world_model.specs.Lives.{Act, Deed, FlightsAreKept, Happens, IsInFlight, Life, LifeRun}
+
+-- ---- the invariant
+
+-- members that have done nothing keep it
+abbrev pub FreshWorldsAreSound : Type 0
+FreshWorldsAreSound = (kinds : ℕ → MemberKind) → Invariant (fresh_world kinds)
+
+-- every event keeps it
+abbrev pub EventsKeepTheInvariant : Type 0
+EventsKeepTheInvariant = (w : World) (d : ℕ) (e : Event) (new : World) → Invariant w → Step w d e new → Invariant new
+
+-- so does every run, in which All, what is consumed, covered and sent only grow
+abbrev pub RunsKeepTheInvariant : Type 0
+RunsKeepTheInvariant = (w : World) (hs : List Happening) (new : World) → Invariant w → Run w hs new → Invariant new × Grows w new
+
+-- All has at most an update for each version that one of the members has consumed
+abbrev pub AllIsCounted : Type 0
+AllIsCounted = (kinds : ℕ → MemberKind) (members : List ℕ) (hs : List Happening) (new : World) → All (λ h. In h.at members) hs
+    → Run (fresh_world kinds) hs new → length new.all ≤ sum_by (λ d. (new.at d).consumed - 9) members
+
+-- ---- records; of a world and a later one, as runs with stops and without give them
+
+-- the same versions
+abbrev pub Same : Versions → Versions → Type 0
+Same a b = (g : Gvsn) → a g ≡ b g
+
+-- what a vector covers of All doesn't change while All grows
+abbrev pub CoverIsStable : Type 0
+CoverIsStable = (w new : World) → VersionsAreMade w → Grows w new
+    → ((d : ℕ) → CoversAlike w new (w.at d).known) × ((s : SentVector) → In s w.vectors → CoversAlike w new s.versions)
+
+-- each covered update is held, or beaten by a record; a file has one record at most
+abbrev pub CoveredIsHeld : Type 0
+CoveredIsHeld = (w : World) → VersionsAreMade w → (d : ℕ)
+    → ((u : Update) → Covered w.all (w.at d).known u → IsHeldOrBeaten (IsRecordOf w d) u)
+    × ((u v : Update) → IsRecordOf w d u → IsRecordOf w d v → u.uid ≡ v.uid → u ≡ v)
+
+-- a sent vector and a recorded change stay covered, and are held or beaten from then on
+abbrev pub StaysCovered : Type 0
+StaysCovered = (w new : World) → VersionsAreMade w → VersionsAreMade new → SentIsKnown w → Grows w new
+    → ((s : SentVector) (g : Gvsn) → In s w.vectors → s.versions g ≡ true → (new.at s.from).known g ≡ true)
+    × ((u : Update) → In u w.all → IsHeldOrBeaten (IsRecordOf new u.gvsn.db) u)
+
+-- members that cover the same versions, at one moment or at two, have the same records
+abbrev pub EqualVectorsHaveEqualRecords : Type 0
+EqualVectorsHaveEqualRecords = (w new : World) → VersionsAreMade w → Grows w new → (i j : ℕ)
+    → Same (w.at i).known (new.at j).known → (u : Update) → IsRecordOf w i u ↔ IsRecordOf new j u
+
+-- ---- trees
+
+-- a member is drained
+abbrev pub IsDrainedAt : World → ℕ → Type 0
+IsDrainedAt w d = IsDrained (IsRecordOf w d) d (w.at d).volume (w.at d).staged (w.at d).consumed
+
+-- the tree of a drained member's volume is the tree of its records
+abbrev pub DrainedVolumesAreTrees : Type 0
+DrainedVolumesAreTrees = (w : World) → Invariant w → (d : ℕ) → IsDrainedAt w d
+    → (path : List (List ℕ)) (kind : Kind) (sum : Sum) → IsVolumeRow (w.at d).volume path kind sum ↔ IsRow (IsRecordOf w d) path kind sum
+
+-- drained members that cover the same versions, at one moment or at two, have the same trees
+abbrev pub EqualVectorsHaveEqualTrees : Type 0
+EqualVectorsHaveEqualTrees = (w new : World) → Invariant w → Invariant new → Grows w new → (i j : ℕ) → Same (w.at i).known (new.at j).known
+    → IsDrainedAt w i → IsDrainedAt new j
+    → (path : List (List ℕ)) (kind : Kind) (sum : Sum) → IsVolumeRow (w.at i).volume path kind sum ↔ IsVolumeRow (new.at j).volume path kind sum
+
+-- ---- the installer
+
+-- each staged sum is that of some contents
+abbrev pub HaveContents : (Uid → Option Sum) → Type 0
+HaveContents staged = (uid : Uid) (sum : Sum) → staged uid ≡ Some sum → (bytes : List ℕ) × (content_sum File bytes ≡ sum)
+
+-- the operation of a candidate of the first kind that has one may be done
+abbrev pub CanBeDone : World → ℕ → InstallStep → Type 0
+CanBeDone w d step = (op : VolCmd) × (new : World) × IsStepOf (IsRecordOf w d) d (w.at d).volume step op × Step w d (Install op) new
+
+-- each next step but the last two kinds, which leave the volume alone, can be done
+abbrev pub NextStepsCanBeDone : Type 0
+NextStepsCanBeDone = (w : World) → Invariant w → (d : ℕ) → HaveContents (w.at d).staged → IsQuiet (w.at d).consumed (w.at d).volume → (step : InstallStep)
+    → IsTurn (IsRecordOf w d) d (w.at d).volume (w.at d).staged step → IsCandidate (IsRecordOf w d) d (w.at d).volume (w.at d).staged (w.at d).consumed step
+    → IsVolumeStep step → CanBeDone w d step
+  where
+    IsVolumeStep : InstallStep → Type 0
+    IsVolumeStep step = ((uid : Uid) → step ≢ InstallStep.Unstage uid) × ((usn : ℕ) → step ≢ InstallStep.Skip usn)
+
+-- no operation of the installer changes an object with a pending local record
+abbrev pub PendingObjectsStay : Type 0
+PendingObjectsStay = (w : World) (d : ℕ) (op : VolCmd) (new : World) → Step w d (Install op) new
+    → (fid : ℕ) (o : Object) → IsAt (w.at d).volume fid o → IsPending (w.at d).consumed (w.at d).volume (uid_of d o) → IsAt (new.at d).volume fid o
+
+-- ---- rounds
+
+-- a round begins true, each of its acts keeps it true, and so does what happens at other members or here meanwhile
+pub record RoundsAreTrue (w : World) (puller server : ℕ) : Type 0 where
+  pub begins : (new : World) (r : Round) → Polls w puller server new r → RoundIsTrue new puller server r
+  pub goes_on : (r : Round) (new : World) (after : Round) → RoundIsTrue w puller server r → GoesOn w puller server r new after → RoundIsTrue new puller server after
+  pub stays : (r : Round) (d : ℕ) (e : Event) (new : World) → RoundIsTrue w puller server r → Step w d e new → RoundIsTrue new puller server r
+
+-- so it is in every world that keeps the invariant
+abbrev pub RoundsStayTrue : Type 0
+RoundsStayTrue = (w : World) → Invariant w → (puller server : ℕ) → RoundsAreTrue w puller server
+
+-- a round in which nothing is asked for or listed holds or beats all of its vector, so it may be finished
+abbrev pub FinishedRoundsAreHeld : Type 0
+FinishedRoundsAreHeld = (w : World) (puller server : ℕ) (r : Round) → RoundIsTrue w puller server r → MayFinish w r → IsAllHeld w puller r.versions
+
+-- ---- adoptions
+
+-- an update that is adopted isn't covered, isn't ahead of its own member, and is of its file's kind
+pub record IsFitToAdopt (w : World) (d : ℕ) (u : Update) : Type 0 where
+  pub new : (w.at d).known u.gvsn ≡ false
+  pub version_ahead : u.gvsn.db ≡ d → u.gvsn.version < (w.at d).consumed
+  pub file_ahead : u.uid.db ≡ d → u.uid.version < (w.at d).consumed
+  pub kinds : (v : Update) → IsRecordOf w d v → v.uid ≡ u.uid → kind_of v ≡ kind_of u
+  pub object_kind : (fid : ℕ) (o : Object) → IsAt (w.at d).volume fid o → uid_of d o ≡ u.uid → o.kind ≡ kind_of u
+
+-- so is each in a run
+abbrev pub AdoptionsAreFit : Type 0
+AdoptionsAreFit = (w : World) (d : ℕ) (u : Update) (new : World) → Invariant w → Step w d (Adopt u) new → IsFitToAdopt w d u
+
+-- a member alone stays sound, whatever its partners send
+abbrev pub AllFoldersStaySound : Type 0
+AllFoldersStaySound = (own : ℕ) (x : Member) (records : List Update) → FolderIsSound own x records → FoldersStaySound own x records
+
+-- ---- stops and restarts
+
+-- every life keeps the invariant, All and what is covered only grow, and each event in flight can land as it would have then
+abbrev pub LivesAreSound : Type 0
+LivesAreSound = (l : Life) (ds : List Deed) (new : Life) → Invariant l.world → FlightsAreKept l → LifeRun l ds new
+    → Invariant new.world × Grows l.world new.world × FlightsAreKept new
+
+-- an event in flight has the change of its member that it would have had
+abbrev pub FlightsCanLand : Type 0
+FlightsCanLand = (l : Life) (d : ℕ) (e : Event) (after : Member) → IsInFlight l d e after → (landed : Life) × Happens l d e Option.None landed × (landed.world.at d ≡ after)
+
+-- ---- how much is due
+
+-- what a file's view sees at a member
+abbrev pub SeesAt : World → ℕ → Uid → View → Type 0
+SeesAt w d uid v = Sees (IsRecordOf w d) d (w.at d).volume (w.at d).staged uid v
+
+-- at most four things are due for a file
+abbrev pub AtMostFourAreDue : Type 0
+AtMostFourAreDue = (w : World) → Invariant w → (d : ℕ) (uid : Uid) (v : View) → SeesAt w d uid v → due v ≤ 4
+
+-- each next step that is done lowers what is due for its file, and raises it for none; so at most four a file are done until the member is drained
+abbrev pub StepsLowerWhatIsDue : Type 0
+StepsLowerWhatIsDue = (w : World) → Invariant w → (d : ℕ) (step : InstallStep) (uid : Uid) (new : World)
+    → IsTurn (IsRecordOf w d) d (w.at d).volume (w.at d).staged step → IsCandidate (IsRecordOf w d) d (w.at d).volume (w.at d).staged (w.at d).consumed step
+    → IsDone step uid w d new → Lowers (SeesAt w d) (SeesAt new d) uid
+  where
+    by_operation : InstallStep → World → ℕ → World → Type 0
+    by_operation step w d new = (op : VolCmd) × IsStepOf (IsRecordOf w d) d (w.at d).volume step op × Step w d (Install op) new
+
+    IsDone : InstallStep → Uid → World → ℕ → World → Type 0
+    IsDone (InstallStep.Unstage file) uid w d new = (uid ≡ file) × Step w d (Unstage file) new
+    IsDone (InstallStep.Skip usn) uid w d new = ⊥
+    IsDone (InstallStep.Park file) uid w d new = (uid ≡ file) × by_operation (InstallStep.Park file) w d new
+    IsDone (InstallStep.Erase file) uid w d new = (uid ≡ file) × by_operation (InstallStep.Erase file) w d new
+    IsDone (InstallStep.Make file) uid w d new = (uid ≡ file) × by_operation (InstallStep.Make file) w d new
+    IsDone (InstallStep.Rewrite file) uid w d new = (uid ≡ file) × by_operation (InstallStep.Rewrite file) w d new
+    IsDone (InstallStep.Place file) uid w d new = (uid ≡ file) × by_operation (InstallStep.Place file) w d new
