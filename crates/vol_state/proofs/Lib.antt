@@ -16,3 +16,4 @@ mod Walks
 mod Hinted
 mod Numbering
 mod Standing
+mod Tabling

@@ -1,6 +1,7 @@
 // Laws of the definitions.
 ghost use Rattle.vol_state.specs.Laws.{KeepsNumbering, LeavesNumbersFree};
 ghost use Rattle.vol_state.specs.Maps.{BeginsStanding, StandsOn};
+ghost use Rattle.vol_state.specs.Tables.{TablesAreTests, TestsAreTables};
 
 /// USNs that run from 9 without a gap go on so, whatever the command: a fact of volumes that began
 /// fresh, which no type keeps.
@@ -24,4 +25,15 @@ pub fn fresh_lists_stand_for_maps()
 /// goes on to: each command is one write of an object and of a record.
 pub fn lists_stand_for_maps()
     ensures { StandsOn }
+{}
+
+/// A command whose condition holds may be done by the tables of operations over the maps for which
+/// the volume stands.
+pub fn tests_are_tables()
+    ensures { TestsAreTables }
+{}
+
+/// And what the tables allow has its condition, where the next numbers are above all in use.
+pub fn tables_are_tests()
+    ensures { TablesAreTests }
 {}

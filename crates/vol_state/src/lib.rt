@@ -28,7 +28,7 @@ mod volume;
 pub use command::{Ready, VolCmd};
 pub use laws::{
     fresh_lists_stand_for_maps, lists_stand_for_maps, steps_keep_the_numbering,
-    steps_leave_numbers_free,
+    steps_leave_numbers_free, tables_are_tests, tests_are_tables,
 };
 pub use object::Object;
 pub use operation::{LocalOp, Refused};
