@@ -17,3 +17,4 @@ mod Hinted
 mod Numbering
 mod Standing
 mod Tabling
+mod Waying

@@ -41,14 +41,14 @@ at_item v m h s o i = s.objects o.fid ∙ in_at 0 o v.objects h.tree.rising i
 
 -- ---- directories
 
-directory_is : (v : State) (m : Maps) → Stands v m → (fid : ℕ) → is_directory_at v.objects fid ≡ true → IsDirectory m fid
+pub directory_is : (v : State) (m : Maps) → Stands v m → (fid : ℕ) → is_directory_at v.objects fid ≡ true → IsDirectory m fid
 directory_is v m s fid e =
     by_cases (eqb_tells fid 0)
     (λ t. inl t.1)
     (λ t. let r = some_of (λ o. is_directory o.kind) (object_at v.objects fid) (sym (ap (λ b. b || some_is (λ o. is_directory o.kind) (object_at v.objects fid)) t.0) ∙ e) in
     inr (r.0, s.objects fid ∙ r.1, r.2))
 
-directory_at : (v : State) (m : Maps) → Stands v m → (fid : ℕ) → IsDirectory m fid → is_directory_at v.objects fid ≡ true
+pub directory_at : (v : State) (m : Maps) → Stands v m → (fid : ℕ) → IsDirectory m fid → is_directory_at v.objects fid ≡ true
 directory_at v m s fid d =
     by_cases d
     (λ z. ap (is_directory_at v.objects) z)
@@ -59,7 +59,7 @@ directory_at v m s fid d =
 same_true : (a b : ℕ) → a ≡ b → eqb a b ≡ true
 same_true a b e = grind (arith, nat_tests)
 
-beneath_is : (v : State) (m : Maps) → Stands v m → (top n fid : ℕ) → is_under v.objects n top fid ≡ true → BeneathBy m top n fid
+pub beneath_is : (v : State) (m : Maps) → Stands v m → (top n fid : ℕ) → is_under v.objects n top fid ≡ true → BeneathBy m top n fid
 beneath_is v m s top zero fid u = grind (arith, nat_tests)
 beneath_is v m s top (suc n) fid u =
     by_cases (eqb_tells fid top)
@@ -95,17 +95,17 @@ beneath_by : (m : Maps) (n fid : ℕ) → LeadsBy false m n fid → BeneathBy m 
 beneath_by m zero fid l = l
 beneath_by m (suc n) fid l = by_cases l (λ e. inl e) (λ r. by_cases r.2 (λ z. absurd (false≢true z.0)) (λ p. inr (r.0, p.0, r.1, p.1, beneath_by m n p.0.0 p.2)))
 
-reached_is : (v : State) (m : Maps) → Stands v m → (fid : ℕ) → is_reached v.objects fid ≡ true → IsReached m fid
+pub reached_is : (v : State) (m : Maps) → Stands v m → (fid : ℕ) → is_reached v.objects fid ≡ true → IsReached m fid
 reached_is v m s fid u = (length v.objects, leads_by m (length v.objects) fid (beneath_is v m s 0 (length v.objects) fid u))
 
-reached_at : (v : State) (m : Maps) → Stands v m → (fid : ℕ) → Ends v.objects fid → IsReached m fid → is_reached v.objects fid ≡ true
+pub reached_at : (v : State) (m : Maps) → Stands v m → (fid : ℕ) → Ends v.objects fid → IsReached m fid → is_reached v.objects fid ≡ true
 reached_at v m s fid ends r = is_beneath_by v.objects 0 fid ends (under_of v m s 0 r.0 fid (beneath_by m r.0 fid r.1))
 
-off_is : (v : State) (m : Maps) → IsVolume v → Stands v m → (fid parent : ℕ) → is_directory_at v.objects parent ≡ true → is_beneath v.objects fid parent ≡ false → IsBeneath m fid parent → ⊥
+pub off_is : (v : State) (m : Maps) → IsVolume v → Stands v m → (fid parent : ℕ) → is_directory_at v.objects parent ≡ true → is_beneath v.objects fid parent ≡ false → IsBeneath m fid parent → ⊥
 off_is v m h s fid parent d off b =
     false≢true (sym off ∙ is_beneath_by v.objects fid parent (ends_directory v.objects h.tree parent d) (under_of v m s fid b.0 parent b.1))
 
-off_at : (v : State) (m : Maps) → Stands v m → (fid parent : ℕ) → (IsBeneath m fid parent → ⊥) → is_beneath v.objects fid parent ≡ false
+pub off_at : (v : State) (m : Maps) → Stands v m → (fid parent : ℕ) → (IsBeneath m fid parent → ⊥) → is_beneath v.objects fid parent ≡ false
 off_at v m s fid parent off = go (is_beneath v.objects fid parent) refl
   where
     go : (b : Bool) → is_beneath v.objects fid parent ≡ b → is_beneath v.objects fid parent ≡ false
@@ -123,12 +123,12 @@ child_by parent name o e =
     let (same, named) = both (eqb r.0.0 parent) (matches r.0.1 name) r.2 in
     (r.0, r.1, grind (arith, nat_tests), named)
 
-free_is : (v : State) (m : Maps) → IsVolume v → Stands v m → (fid parent : ℕ) (name : List ℕ) → none_or (λ o. eqb o.fid fid) (child v.objects parent name) ≡ true → IsFree m fid parent name
+pub free_is : (v : State) (m : Maps) → IsVolume v → Stands v m → (fid parent : ℕ) (name : List ℕ) → none_or (λ o. eqb o.fid fid) (child v.objects parent name) ≡ true → IsFree m fid parent name
 free_is v m h s fid parent name e g o p at is under named =
     let i = item_of v m s g o at in
     sym i.2 ∙ free_of v h fid parent name e o i.1 (is_child_by parent name o p is under named)
 
-free_at : (v : State) (m : Maps) → IsVolume v → Stands v m → (fid parent : ℕ) (name : List ℕ) → IsFree m fid parent name → none_or (λ o. eqb o.fid fid) (child v.objects parent name) ≡ true
+pub free_at : (v : State) (m : Maps) → IsVolume v → Stands v m → (fid parent : ℕ) (name : List ℕ) → IsFree m fid parent name → none_or (λ o. eqb o.fid fid) (child v.objects parent name) ≡ true
 free_at v m h s fid parent name free = go (child v.objects parent name) refl
   where
     go : (c : Option Object) → child v.objects parent name ≡ c → none_or (λ o. eqb o.fid fid) c ≡ true
@@ -153,7 +153,7 @@ nobody_at v m h s fid parent name away free = go (child v.objects parent name) r
 
 -- ---- what stands in a directory
 
-empty_is : (v : State) (m : Maps) → Stands v m → (fid : ℕ) → has_children v.objects fid ≡ false → IsEmpty m fid
+pub empty_is : (v : State) (m : Maps) → Stands v m → (fid : ℕ) → has_children v.objects fid ≡ false → IsEmpty m fid
 empty_is v m s fid bare g o p at is =
     let i = item_of v m s g o at in
     away p.0 fid (sym (ap (some_is (λ q. eqb q.0 fid)) is) ∙ beneath fid o v.objects bare i.1)
@@ -169,7 +169,7 @@ child_in fid (x ∷ os) e = go (some_is (λ p. eqb p.0 fid) x.place) refl e (chi
     go true t e more = let r = some_of (λ p. eqb p.0 fid) x.place t in (x, r.0, inl refl, r.1, grind (arith, nat_tests))
     go false t e more = let r = more e in (r.0, r.1, inr r.2, r.3, r.4)
 
-empty_at : (v : State) (m : Maps) → IsVolume v → Stands v m → (fid : ℕ) → IsEmpty m fid → has_children v.objects fid ≡ false
+pub empty_at : (v : State) (m : Maps) → IsVolume v → Stands v m → (fid : ℕ) → IsEmpty m fid → has_children v.objects fid ≡ false
 empty_at v m h s fid bare = go (has_children v.objects fid) refl
   where
     go : (b : Bool) → has_children v.objects fid ≡ b → has_children v.objects fid ≡ false
