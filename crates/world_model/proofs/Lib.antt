@@ -1,1 +1,5 @@
 pub mod Changing
+pub mod Names
+pub mod Writing
+pub mod Chains
+pub mod Writes
