@@ -3,3 +3,4 @@ pub mod Names
 pub mod Writing
 pub mod Chains
 pub mod Writes
+pub mod Locally
