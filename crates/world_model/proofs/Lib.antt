@@ -4,3 +4,4 @@ pub mod Writing
 pub mod Chains
 pub mod Writes
 pub mod Locally
+pub mod Installed
