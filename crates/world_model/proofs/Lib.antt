@@ -5,3 +5,4 @@ pub mod Chains
 pub mod Writes
 pub mod Locally
 pub mod Installed
+pub mod Recorded
