@@ -31,7 +31,7 @@ pub shown_record : (Records : Update → Type 0) (u : Update) → IsShown Record
 shown_record Records u (zero, h) = absurd h
 shown_record Records u (suc n, h) = h.0.among
 
-true_false : (b : Bool) → b ≡ true → b ≡ false → ⊥
+pub true_false : (b : Bool) → b ≡ true → b ≡ false → ⊥
 true_false b p q = cc
 
 pub file_present : (u : Update) → is_file u ≡ true → u.present ≡ true

@@ -6,3 +6,4 @@ pub mod Writes
 pub mod Locally
 pub mod Installed
 pub mod Recorded
+pub mod Consumed
