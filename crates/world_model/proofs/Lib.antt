@@ -7,3 +7,4 @@ pub mod Locally
 pub mod Installed
 pub mod Recorded
 pub mod Consumed
+pub mod Adopted
