@@ -8,3 +8,4 @@ pub mod Installed
 pub mod Recorded
 pub mod Consumed
 pub mod Adopted
+pub mod Folder
