@@ -1,1 +1,3 @@
 pub mod Changing
+pub mod Facts
+pub mod Growth
