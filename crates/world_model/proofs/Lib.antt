@@ -1,3 +1,5 @@
 pub mod Changing
 pub mod Facts
 pub mod Growth
+pub mod Versions
+pub mod Puts
