@@ -3,3 +3,5 @@ pub mod Facts
 pub mod Growth
 pub mod Versions
 pub mod Puts
+pub mod Headline
+pub mod Fresh
