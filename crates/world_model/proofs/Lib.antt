@@ -5,3 +5,4 @@ pub mod Versions
 pub mod Puts
 pub mod Headline
 pub mod Fresh
+pub mod Rounds
