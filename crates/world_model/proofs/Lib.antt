@@ -6,3 +6,4 @@ pub mod Puts
 pub mod Headline
 pub mod Fresh
 pub mod Rounds
+pub mod Flight
