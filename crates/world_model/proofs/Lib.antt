@@ -7,3 +7,4 @@ pub mod Headline
 pub mod Fresh
 pub mod Rounds
 pub mod Flight
+pub mod Lives
