@@ -11,13 +11,13 @@ use Rattle.record_db.specs.Records.{Has, Versions}
 use Rattle.record_db.proofs.Keys.{uid_cases}
 use Rattle.name_rules.specs.Next.{IsPending}
 use Rattle.name_rules.specs.Tree.{is_file, kind_of}
+use Rattle.name_rules.proofs.Shown.{AreSame}
 use Rattle.world_model.specs.World.{Member, with_uid}
 use Rattle.world_model.specs.Events.{adopted_by, unstaged_at}
 use Rattle.world_model.specs.Invariant.{HasSum, MemberIsSound}
 use Rattle.world_model.proofs.Changing.{uid_other, uid_same}
-use Rattle.world_model.proofs.Chains.{none_some, some_is}
-use Rattle.world_model.proofs.Installed.{true_false}
-use Rattle.world_model.proofs.Consumed.{PutsTo, SameAs}
+use Rattle.world_model.proofs.Facts.{none_some, some_is, true_false}
+use Rattle.world_model.proofs.Consumed.{PutsTo}
 
 -- adopting an update keeps a member sound
 pub adopt_sound : (Known Records KnownAfter RecordsAfter : Update → Type 0) (own : ℕ) (x : Member) (u : Update) → PutsTo Records RecordsAfter u → MemberIsSound Known Records own x
@@ -62,7 +62,7 @@ adopt_sound Known Records KnownAfter RecordsAfter own x u puts s kinds = record 
         (v, puts.old v r (λ t. n (sym a ∙ t)), a, b, c)
 
 -- the records stay (finish, and other members' events)
-pub same_sound : (Known Records KnownAfter RecordsAfter : Update → Type 0) (own : ℕ) (x : Member) → SameAs Records RecordsAfter → MemberIsSound Known Records own x
+pub same_sound : (Known Records KnownAfter RecordsAfter : Update → Type 0) (own : ℕ) (x : Member) → AreSame Records RecordsAfter → MemberIsSound Known Records own x
     → ((f : ℕ) (o : Object) (v : Update) → x.volume.at f ≡ Some o → KnownAfter v → v.uid ≡ uid_of own o → kind_of v ≡ o.kind) → MemberIsSound KnownAfter RecordsAfter own x
 same_sound Known Records KnownAfter RecordsAfter own x same s kinds = record {
   places = s.places;

@@ -11,21 +11,11 @@ use Rattle.vol_state.specs.Tables.{IsBeneath, IsDirectory, IsEmpty, IsFree, Lead
 use Rattle.name_rules.specs.Recorded.{is_deletion}
 use Rattle.world_model.specs.Invariant.{JournalIsTrue, NumbersAreFresh, PlacesAreATree}
 use Rattle.world_model.proofs.Changing.{at_other, at_same}
+use Rattle.world_model.proofs.Facts.{at_case, none_some, some_is}
 use Rattle.world_model.proofs.Names.{matches_sym}
 use Rattle.world_model.proofs.Writing.{wrote}
 
--- what stands at j of a changed map, by cases
-pub at_case : {X : Type 0} (P : Type 0) (f : ℕ → X) (k : ℕ) (x : X) (j : ℕ) (y : X) → with_at f k x j ≡ y → (j ≡ k → x ≡ y → P) → (j ≢ k → f j ≡ y → P) → P
-at_case P f k x j y e new old = elim (cases_eq j k) [
-  | inl s ↦ new s (sym (at_same f k x) ∙ subst (λ i. with_at f k x i ≡ y) s e)
-  | inr n ↦ old n (sym (at_other f k x j n) ∙ e)
-]
-
-pub some_is : {X : Type 0} (x y : X) → Some x ≡ Some y → x ≡ y
-some_is x y e = cc
-
-pub none_some : {X : Type 0} (x : X) → None ≡ Some x → ⊥
-none_some x e = cc
+-- ---- a written volume
 
 pub there : (m : Maps) (f : ℕ) (o : Option Object) (e : VolRecord) → (wrote m f o e).at f ≡ o
 there m f o e = at_same m.at f o

@@ -21,13 +21,14 @@ use Rattle.record_db.proofs.Keys.{uid_cases}
 use Rattle.name_rules.specs.Next.{IsPending}
 use Rattle.name_rules.specs.Recorded.{hash_of, is_deletion, object_update, recorded_by, recorded_of, tombstone}
 use Rattle.name_rules.specs.Tree.{is_file, kind_of}
+use Rattle.name_rules.proofs.Cases.{made_by}
+use Rattle.name_rules.proofs.Shown.{AreSame}
 use Rattle.world_model.specs.World.{Member, with_uid}
 use Rattle.world_model.specs.Events.{consumed_by}
 use Rattle.world_model.specs.Invariant.{HasSum, JournalIsTrue, MemberIsSound, NumbersAreFresh}
 use Rattle.world_model.proofs.Changing.{uid_other, uid_same}
-use Rattle.world_model.proofs.Recorded.{made_of_record}
-use Rattle.world_model.proofs.Chains.{none_some, some_is}
-use Rattle.world_model.proofs.Installed.{file_present, true_false}
+use Rattle.world_model.proofs.Facts.{none_some, some_is, true_false}
+use Rattle.world_model.proofs.Installed.{file_present}
 
 -- ---- why a record made no update
 
@@ -101,7 +102,7 @@ pub record PutsTo (Records RecordsAfter : Update → Type 0) (u : Update) : Type
 
 pub made_uid_of : (own : ℕ) (m : Maps) (base n moment : ℕ) (e : VolRecord) (Records : Update → Type 0) (held : Option Update) (u : Update)
     → ((o : Object) → e.local ≡ true → m.at e.fid ≡ Some o → uid_of own o ≡ e.uid) → Held Records e.uid held → Some u ≡ recorded_of own m base n moment e held → u.uid ≡ e.uid
-made_uid_of own m base n moment e Records held u named h is = let (l, cases) = made_of_record own m base n moment e held u is in elim cases [
+made_uid_of own m base n moment e Records held u named h is = let (l, cases) = made_by own m base n moment e.local (is_deletion e) held (m.at e.fid) u is in elim cases [
   | inl d ↦ ap (λ x. x.uid) d.is ∙ (subst (Held Records e.uid) d.was h).1
   | inr w ↦ ap (λ x. x.uid) w.is ∙ named w.now l w.there
 ]
@@ -147,7 +148,7 @@ pub made_kind : (own : ℕ) (base moment : ℕ) (Known Records : Update → Type
     → Some u ≡ recorded_of own x.volume base x.consumed moment e held
     → ((h : Update) → Known h → h.uid ≡ u.uid → kind_of h ≡ kind)
     → ((w : Object) → x.volume.at e.fid ≡ Some w → uid_of own w ≡ u.uid → w.kind ≡ kind) → kind_of u ≡ kind
-made_kind own base moment Known Records x e held u kind inside is_held is of_held of_object = elim (made_of_record own x.volume base x.consumed moment e held u is).1 [
+made_kind own base moment Known Records x e held u kind inside is_held is of_held of_object = elim (made_by own x.volume base x.consumed moment e.local (is_deletion e) held (x.volume.at e.fid) u is).1 [
   | inl d ↦
       let h = subst (Held Records e.uid) d.was is_held in
       ap kind_of d.is ∙ of_held d.old (inside d.old h.0) (ap (λ z. z.uid) (sym d.is))
@@ -210,7 +211,7 @@ consume_some Known Records KnownAfter RecordsAfter own base moment x u e held in
     uid = made_uid_of own x.volume base x.consumed moment e Records held u (λ o l k. s.journal.named x.consumed e o (omega arith) at l k) is_held is
 
     now : is_file u ≡ true → HasSum own x.volume u.uid u.hash
-    now i = elim (made_of_record own x.volume base x.consumed moment e held u is).1 [
+    now i = elim (made_by own x.volume base x.consumed moment e.local (is_deletion e) held (x.volume.at e.fid) u is).1 [
       | inl d ↦ absurd (true_false u.present (file_present u i) (ap (λ z. z.present) d.is))
       | inr y ↦ (e.fid, y.now, y.there, ap (λ z. z.uid) (sym y.is), sym (file_sum u y.now.kind y.now.sum i (ap kind_of y.is ∙ kind_kept own x.volume base x.consumed moment held y.now y.place) (ap (λ z. z.hash) y.is)))
     ]
@@ -230,13 +231,8 @@ consume_some Known Records KnownAfter RecordsAfter own base moment x u e held in
 
 -- ---- a record that makes none
 
--- the same records
-pub record SameAs (Records RecordsAfter : Update → Type 0) : Type 0 where
-  pub to : (v : Update) → Records v → RecordsAfter v
-  pub back : (v : Update) → RecordsAfter v → Records v
-
 -- a member stays sound where it makes none
-pub consume_nothing : (Known Records KnownAfter RecordsAfter : Update → Type 0) (own base moment : ℕ) (x : Member) (e : VolRecord) (held : Option Update) → ((u v : Update) → Records u → Records v → u.uid ≡ v.uid → u ≡ v) → SameAs Records RecordsAfter → ((v : Update) → KnownAfter v → Known v)
+pub consume_nothing : (Known Records KnownAfter RecordsAfter : Update → Type 0) (own base moment : ℕ) (x : Member) (e : VolRecord) (held : Option Update) → ((u v : Update) → Records u → Records v → u.uid ≡ v.uid → u ≡ v) → AreSame Records RecordsAfter → ((v : Update) → KnownAfter v → Known v)
     → MemberIsSound Known Records own x → x.volume.entry x.consumed ≡ Some e → Held Records e.uid held → None ≡ recorded_of own x.volume base x.consumed moment e held → MemberIsSound KnownAfter RecordsAfter own (consumed_by own None x)
 consume_nothing Known Records KnownAfter RecordsAfter own base moment x e held one same only s at is_held is = record {
   places = s.places;

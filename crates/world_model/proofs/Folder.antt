@@ -12,13 +12,13 @@ use Rattle.vol_state.specs.Conditions.{root_uid}
 use Rattle.record_db.specs.Lists.{IsRising, put_any, put_record}
 use Rattle.record_db.proofs.Keys.{uid_apart}
 use Rattle.record_db.proofs.Lists.{above, in_put, put_in, put_keeps, put_rising}
-use Rattle.name_rules.specs.Recorded.{base_fence, recorded_of}
+use Rattle.name_rules.specs.Recorded.{base_fence, is_deletion, recorded_of}
 use Rattle.name_rules.specs.Tree.{kind_of}
+use Rattle.name_rules.proofs.Cases.{made_by}
 use Rattle.world_model.specs.World.{Member}
 use Rattle.world_model.specs.Events.{consumed_by}
 use Rattle.world_model.specs.Folder.{FolderIsSound, IsFound}
 use Rattle.world_model.specs.Laws.{AllFoldersStaySound}
-use Rattle.world_model.proofs.Recorded.{made_of_record}
 use Rattle.world_model.proofs.Locally.{local_sound}
 use Rattle.world_model.proofs.Installed.{replica_sound}
 use Rattle.world_model.proofs.Consumed.{PutsTo, consume_nothing, consume_some}
@@ -41,7 +41,7 @@ late n l k = grind (arith, nat_tests)
 consumed_uid : (own : ℕ) (x : Member) (records : List Update) (moment : ℕ) (e : VolRecord) (held : Option Update) (u : Update) (P : Uid → Type 0) → FolderIsSound own x records → x.volume.entry x.consumed ≡ Some e → IsFound records e.uid held
     → Some u ≡ recorded_of own x.volume (base_fence x.phase x.kind) x.consumed moment e held
     → ((r : Update) → In r records → P r.uid) → ((y : Object) → x.volume.at e.fid ≡ Some y → y.last_local ≤ x.consumed → P (uid_of own y)) → P u.uid
-consumed_uid own x records moment e held u P h at found is of_record of_object = elim (made_of_record own x.volume (base_fence x.phase x.kind) x.consumed moment e held u is).1 [
+consumed_uid own x records moment e held u P h at found is of_record of_object = elim (made_by own x.volume (base_fence x.phase x.kind) x.consumed moment e.local (is_deletion e) held (x.volume.at e.fid) u is).1 [
   | inl d ↦ let k = subst (IsFound records e.uid) d.was found in subst P (ap (λ z. z.uid) (sym d.is)) (of_record d.old k.0)
   | inr y ↦ subst P (ap (λ z. z.uid) (sym y.is)) (of_object y.now y.there (late x.consumed y.now.last_local y.newest))
 ]

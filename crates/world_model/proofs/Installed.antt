@@ -19,21 +19,17 @@ use Rattle.vol_state.specs.Tables.{IsAt, IsBeneath, IsDirectory, IsEmpty, IsFree
 use Rattle.record_db.specs.Records.{Has}
 use Rattle.name_rules.specs.Next.{IsDue, IsPending, IsQuiet}
 use Rattle.name_rules.specs.Tree.{IsShown, is_file, kind_of}
+use Rattle.name_rules.proofs.Shown.{shown_record}
 use Rattle.world_model.specs.World.{Member}
 use Rattle.world_model.specs.Events.{operated}
 use Rattle.world_model.specs.Invariant.{HasSum, JournalIsTrue, MemberIsSound, NumbersAreFresh, PlacesAreATree}
+use Rattle.world_model.proofs.Facts.{at_case, none_some, some_is, true_false}
 use Rattle.world_model.proofs.Writing.{changes_is, logs, loses_is, made_object, wrote}
-use Rattle.world_model.proofs.Chains.{at_case, beside, journal_quiet, none_some, numbers_written, some_is, there}
+use Rattle.world_model.proofs.Chains.{beside, journal_quiet, numbers_written, there}
 use Rattle.world_model.proofs.Writes.{tree_gone, tree_keep, tree_move, tree_new, tree_park}
 use Rattle.world_model.proofs.Locally.{fid_is_new, not_zero, with_volume}
 
-pub shown_record : (Records : Update → Type 0) (u : Update) → IsShown Records u → Records u
-shown_record Records u (zero, h) = absurd h
-shown_record Records u (suc n, h) = h.0.among
-
-pub true_false : (b : Bool) → b ≡ true → b ≡ false → ⊥
-true_false b p q = cc
-
+-- a present file is present
 pub file_present : (u : Update) → is_file u ≡ true → u.present ≡ true
 file_present u e = go u.present e
   where

@@ -23,8 +23,9 @@ use Rattle.world_model.specs.World.{Member}
 use Rattle.world_model.specs.Events.{operated}
 use Rattle.world_model.specs.Invariant.{ContentsAreKept, HasSum, MemberIsSound, NumbersAreFresh, ObjectsHaveRecords, PlacesAreATree}
 use Rattle.world_model.proofs.Changing.{at_other, at_same}
+use Rattle.world_model.proofs.Facts.{at_case, none_some, some_is}
 use Rattle.world_model.proofs.Writing.{changes_is, logs, loses_is, made_object, wrote}
-use Rattle.world_model.proofs.Chains.{KeepsPlaces, at_case, beside, journal_removed, journal_wrote, leads_beside, leads_kept, leads_through, leads_without, none_some, numbers_written, some_is, there, written_keeps}
+use Rattle.world_model.proofs.Chains.{KeepsPlaces, beside, journal_removed, journal_wrote, leads_beside, leads_kept, leads_through, leads_without, numbers_written, there, written_keeps}
 use Rattle.world_model.proofs.Writes.{tree_gone, tree_keep, tree_move, tree_new}
 
 -- ---- numbers that are new

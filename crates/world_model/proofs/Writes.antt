@@ -6,8 +6,9 @@ use Rattle.vol_state.specs.State.{uid_of}
 use Rattle.vol_state.specs.Maps.{Maps}
 use Rattle.vol_state.specs.Tables.{IsBeneath, IsDirectory, IsEmpty, IsFree, Leads, LeadsBy}
 use Rattle.world_model.specs.Invariant.{PlacesAreATree}
+use Rattle.world_model.proofs.Facts.{at_case, none_some, some_is}
 use Rattle.world_model.proofs.Writing.{wrote}
-use Rattle.world_model.proofs.Chains.{KeepsPlaces, at_case, directory_kept, directory_without, leads_beside, leads_kept, leads_through, leads_without, none_some, some_is, there, tree_written, written_keeps}
+use Rattle.world_model.proofs.Chains.{KeepsPlaces, directory_kept, directory_without, leads_beside, leads_kept, leads_through, leads_without, there, tree_written, written_keeps}
 
 pub reached_leads : (m : Maps) (n f : ℕ) → LeadsBy false m n f → LeadsBy true m n f
 reached_leads m zero f h = h
