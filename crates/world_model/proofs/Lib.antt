@@ -17,3 +17,4 @@ pub mod Fresh
 pub mod Rounds
 pub mod Flight
 pub mod Lives
+pub mod Steps
