@@ -8,3 +8,4 @@ pub mod Fresh
 pub mod Rounds
 pub mod Flight
 pub mod Lives
+pub mod Counting
