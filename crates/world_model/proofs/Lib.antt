@@ -18,3 +18,4 @@ pub mod Rounds
 pub mod Flight
 pub mod Lives
 pub mod Steps
+pub mod Counting

@@ -26,13 +26,14 @@ use Rattle.world_model.specs.World.{Member, World, with_member}
 use Rattle.world_model.specs.Events.{Event, IsAllHeld, Records, Step, WasSent, Local, Consume, SendVector, SendUpdate, Adopt, Finish, Install, Unstage, adopted_by, consumed_by, consumes, finished_by}
 use Rattle.world_model.specs.Invariant.{ClocksAreSmall, FilesAreSound, Invariant, IsSound, SentIsKnown, VersionsAreMade, consumed_of}
 use Rattle.world_model.specs.Runs.{Happening, Run}
+use Rattle.world_model.specs.Laws.{EventsKeepTheInvariant, PendingObjectsStay, RunsKeepTheInvariant}
 use Rattle.world_model.proofs.Changing.{at_each, at_same}
-use Rattle.world_model.proofs.Growth.{consume_grows, stays}
+use Rattle.world_model.proofs.Growth.{consume_grows, run_grows, stays}
 use Rattle.world_model.proofs.Versions.{same_consumed, step_made, step_sent}
 use Rattle.world_model.proofs.Puts.{adopt_put, consume_none, consume_put, finish_fewer, finish_more}
 use Rattle.world_model.proofs.Locally.{local_sound}
 use Rattle.world_model.proofs.Adopted.{adopt_sound, known_sound, same_sound, unstage_sound}
-use Rattle.world_model.proofs.Installed.{replica_sound}
+use Rattle.world_model.proofs.Installed.{no_pending, replica_sound}
 use Rattle.world_model.proofs.Consumed.{Held, PutsTo, consume_nothing, consume_some, kind_kept, made_kind}
 
 -- ---- the parts of a member, in the world
@@ -247,7 +248,8 @@ changed w d x h same made sent sound = record {
   clocks = h.clocks;
 }
 
-pub step_keeps : (w : World) (d : ℕ) (e : Event) (new : World) → Invariant w → Step w d e new → Invariant new
+-- every event keeps the invariant
+pub step_keeps : EventsKeepTheInvariant
 step_keeps w d (Local op) new h s =
     subst Invariant (sym s.1) (changed w d _ h refl (step_made w d (Local op) _ h.versions h.sent (s.0, refl)) (step_sent w d (Local op) _ h.sent (s.0, refl))
     (local_sound (λ v. In v w.all) (IsRecord w.all (w.at d).known) d (w.at d) op (h.versions.begun d) (λ v r. r.among.0) (λ u a e. subst (λ (i : ℕ). u.uid.version < (w.at i).consumed) e (h.files.made u a)) (h.members d) s.0))
@@ -285,6 +287,15 @@ step_keeps w d (Unstage id) new h (f, o, at, uid, staged, is) =
     subst Invariant (sym is) (changed w d _ h refl (step_made w d (Unstage id) _ h.versions h.sent (f, o, at, uid, staged, refl)) (step_sent w d (Unstage id) _ h.sent (f, o, at, uid, staged, refl))
     (unstage_sound (λ v. In v w.all) (IsRecord w.all (w.at d).known) d (w.at d) id f o (h.members d) at uid staged))
 
-pub run_keeps : (w : World) (hs : List Happening) (new : World) → Invariant w → Run w hs new → Invariant new
+-- so does every run
+run_keeps : (w : World) (hs : List Happening) (new : World) → Invariant w → Run w hs new → Invariant new
 run_keeps w [] new h e = subst Invariant (sym e) h
 run_keeps w (k ∷ hs) new h (mid, s, r) = run_keeps mid hs new (step_keeps w k.at k.event mid h s) r
+
+-- in which all grows that may
+pub runs_keep : RunsKeepTheInvariant
+runs_keep w hs new h r = (run_keeps w hs new h r, run_grows w hs new r)
+
+-- an operation of the installer is done only where no local record is pending
+pub pending_stay : PendingObjectsStay
+pending_stay w d op new s fid o at pending = absurd (no_pending (w.at d) (uid_of d o) s.0 pending)
