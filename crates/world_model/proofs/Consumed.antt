@@ -19,7 +19,7 @@ use Rattle.vol_state.specs.Tables.{IsReached}
 use Rattle.record_db.specs.Records.{Has}
 use Rattle.record_db.proofs.Keys.{uid_cases}
 use Rattle.name_rules.specs.Next.{IsPending}
-use Rattle.name_rules.specs.Recorded.{hash_of, is_deletion, object_update, recorded_by, recorded_of, tombstone}
+use Rattle.name_rules.specs.Recorded.{is_deletion, object_update, recorded_by, recorded_of, tombstone}
 use Rattle.name_rules.specs.Tree.{is_file, kind_of}
 use Rattle.name_rules.proofs.Cases.{made_by}
 use Rattle.name_rules.proofs.Shown.{AreSame}

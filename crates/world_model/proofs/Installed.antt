@@ -1,9 +1,8 @@
 -- What a step of the installer keeps.
-use Rattle.std.proofs.Common.{◌≡◌, ◌≢◌, ◌≤◌, ◌⊎◌, ℕ, zero, suc, Bool, true, false, not, ◌&&◌, List, refl, sym, ap, ◌∙◌, subst, arith, inl, inr, Option, Some, None}
+use Rattle.std.proofs.Common.{◌≡◌, ◌≢◌, ◌≤◌, ◌⊎◌, ℕ, Bool, true, false, not, ◌&&◌, List, refl, sym, ap, ◌∙◌, subst, arith, inl, inr, Option, Some, None}
 use Rattle.std.specs.Prelude.{unwrap_or}
 use Rattle.std.proofs.lemmas.Bool.{cases_eq}
 use Rattle.frs_base.specs.declared.kind.Kind.{Kind}
-use Rattle.frs_base.specs.declared.sum.Sum.{Sum}
 use Rattle.frs_base.specs.declared.version.Uid.{Uid}
 use Rattle.win_order.specs.Order.{is_directory}
 use Rattle.win_order.specs.declared.update.Update.{Update}
@@ -13,16 +12,15 @@ use Rattle.vol_state.specs.declared.command.VolCmd.{VolCmd}
 use Rattle.vol_state.specs.declared.command.VolCmd.TheVariants.{PutNew, PutOver, Mkdir, Move, Remove, Park, Erase, Make, Rewrite, Place}
 use Rattle.vol_state.specs.State.{uid_of}
 use Rattle.vol_state.specs.Conditions.{root_uid}
-use Rattle.vol_state.specs.Effects.{at_place, no_sum, stamp, with_bytes}
-use Rattle.vol_state.specs.Maps.{Maps}
-use Rattle.vol_state.specs.Tables.{IsAt, IsBeneath, IsDirectory, IsEmpty, IsFree, IsNew, IsReplica}
+use Rattle.vol_state.specs.Effects.{at_place, stamp, with_bytes}
+use Rattle.vol_state.specs.Tables.{IsAt, IsEmpty, IsNew, IsReplica}
 use Rattle.record_db.specs.Records.{Has}
 use Rattle.name_rules.specs.Next.{IsDue, IsPending, IsQuiet}
-use Rattle.name_rules.specs.Tree.{IsShown, is_file, kind_of}
+use Rattle.name_rules.specs.Tree.{is_file, kind_of}
 use Rattle.name_rules.proofs.Shown.{shown_record}
 use Rattle.world_model.specs.World.{Member}
 use Rattle.world_model.specs.Events.{operated}
-use Rattle.world_model.specs.Invariant.{HasSum, JournalIsTrue, MemberIsSound, NumbersAreFresh, PlacesAreATree}
+use Rattle.world_model.specs.Invariant.{HasSum, JournalIsTrue, MemberIsSound, PlacesAreATree}
 use Rattle.world_model.proofs.Facts.{at_case, none_some, some_is, true_false}
 use Rattle.world_model.proofs.Writing.{changes_is, logs, loses_is, made_object, wrote}
 use Rattle.world_model.proofs.Chains.{beside, journal_quiet, numbers_written, there}

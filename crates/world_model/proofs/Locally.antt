@@ -13,7 +13,7 @@ use Rattle.vol_state.specs.declared.command.VolCmd.TheVariants.{PutNew, PutOver,
 use Rattle.vol_state.specs.State.{uid_of}
 use Rattle.vol_state.specs.Conditions.{root_uid}
 use Rattle.vol_state.specs.Effects.{at_place, stamp, with_bytes}
-use Rattle.vol_state.specs.Maps.{Maps, write}
+use Rattle.vol_state.specs.Maps.{Maps}
 use Rattle.vol_state.specs.Tables.{IsAt, IsBeneath, IsDirectory, IsEmpty, IsFree, IsLocal, IsReached, Leads}
 use Rattle.record_db.specs.Records.{Has}
 use Rattle.name_rules.specs.Next.{IsPending}

@@ -1,10 +1,9 @@
 -- Every event keeps the invariant.
-use Rattle.std.proofs.Common.{◌≡◌, ◌≢◌, ◌<◌, ◌≤◌, ◌+◌, ◌^◌, ◌⊎◌, ℕ, Bool, true, false, ltb, List, [], ◌∷◌, ◌++◌, length, refl, sym, ap, ◌∙◌, subst, arith, inl, inr, Option, Some, None}
+use Rattle.std.proofs.Common.{◌≡◌, ◌≢◌, ◌<◌, ◌≤◌, ◌+◌, ◌^◌, ◌⊎◌, ℕ, false, ltb, List, [], ◌∷◌, ◌++◌, length, refl, sym, ap, ◌∙◌, subst, arith, inl, inr, Option, Some, None}
 use Rattle.std.specs.Prelude.{MatchOption, option_to_list, unwrap_or}
 use Rattle.std.proofs.lemmas.List.{length-append}
 use Rattle.std.proofs.lemmas.Bool.Decides.{nat_tests}
 use Rattle.frs_base.specs.Options.{In}
-use Rattle.frs_base.specs.declared.kind.Kind.{Kind}
 use Rattle.frs_base.specs.declared.kind.MemberKind.{MemberKind}
 use Rattle.frs_base.specs.declared.kind.MemberKind.TheVariants.{Primary, Plain}
 use Rattle.frs_base.specs.declared.kind.Phase.{Phase}
@@ -23,7 +22,7 @@ use Rattle.name_rules.specs.Recorded.{base_fence, clock_of, fence_of, is_deletio
 use Rattle.name_rules.specs.Tree.{kind_of}
 use Rattle.name_rules.proofs.Cases.{made_by}
 use Rattle.world_model.specs.World.{Member, World, with_member}
-use Rattle.world_model.specs.Events.{Event, IsAllHeld, Records, Step, WasSent, Local, Consume, SendVector, SendUpdate, Adopt, Finish, Install, Unstage, adopted_by, consumed_by, consumes, finished_by}
+use Rattle.world_model.specs.Events.{IsAllHeld, Records, WasSent, Local, Consume, SendVector, SendUpdate, Adopt, Finish, Install, Unstage, adopted_by, consumed_by, consumes, finished_by}
 use Rattle.world_model.specs.Invariant.{ClocksAreSmall, FilesAreSound, Invariant, IsSound, SentIsKnown, VersionsAreMade, consumed_of}
 use Rattle.world_model.specs.Runs.{Happening, Run}
 use Rattle.world_model.specs.Laws.{EventsKeepTheInvariant, PendingObjectsStay, RunsKeepTheInvariant}
