@@ -13,7 +13,7 @@ use Rattle.vol_state.specs.declared.record.VolRecord.{VolRecord}
 use Rattle.vol_state.specs.State.{uid_of}
 use Rattle.vol_state.specs.Conditions.{root_uid}
 use Rattle.vol_state.specs.Tables.{IsAt}
-use Rattle.record_db.specs.Records.{Versions, both, plus}
+use Rattle.record_db.specs.Records.{IsRecord, Versions, both, plus}
 use Rattle.record_db.specs.Lists.{IsRising, put_any, put_record}
 use Rattle.record_db.proofs.Keys.{uid_apart, uid_cases}
 use Rattle.record_db.proofs.Sets.{both_cases, both_old, plus_cases, plus_new, plus_old}
@@ -21,15 +21,16 @@ use Rattle.record_db.proofs.Lists.{above, in_put, put_in, put_keeps, put_rising}
 use Rattle.name_rules.specs.Recorded.{base_fence, is_deletion, recorded_of}
 use Rattle.name_rules.specs.Tree.{kind_of}
 use Rattle.name_rules.proofs.Cases.{made_by, made_version}
-use Rattle.world_model.specs.World.{Member}
+use Rattle.world_model.specs.World.{Member, fresh_member}
 use Rattle.world_model.specs.Events.{adopted_by, consumed_by, finished_by, operated, unstaged_at}
 use Rattle.world_model.specs.Folder.{FolderIsSound, IsFit, IsFound, VersionsAreKept}
-use Rattle.world_model.specs.Laws.{AllFoldersStaySound}
+use Rattle.world_model.specs.Laws.{AllFoldersStaySound, FoldersBeginSound}
 use Rattle.world_model.proofs.Facts.{true_false}
 use Rattle.world_model.proofs.Locally.{local_sound}
 use Rattle.world_model.proofs.Installed.{replica_sound}
 use Rattle.world_model.proofs.Consumed.{PutsTo, consume_nothing, consume_some}
-use Rattle.world_model.proofs.Adopted.{adopt_sound, known_sound, unstage_sound}
+use Rattle.world_model.proofs.Adopted.{adopt_sound, known_sound, same_sound, unstage_sound}
+use Rattle.world_model.proofs.Fresh.{fresh_sound}
 
 puts_list : (u : Update) (records : List Update) → IsRising records → PutsTo (λ v. In v records) (λ v. In v (put_record u records)) u
 puts_list u records up = record { new = put_in u records; old = λ v h n. put_keeps u v records h n; only = λ v h. in_put u v records up h }
@@ -245,4 +246,22 @@ folders_stay own x records h = record {
     member = known_sound (λ u. In u records) (λ u. In u records) own x (both x.known s) Normal h.member;
   };
   consume = folder_consumes own x records h;
+}
+
+-- so it is when it has done nothing
+pub folders_begin : FoldersBeginSound
+folders_begin own kind = record {
+  begun = omega arith;
+  rising = tt;
+  versions = record {
+    own_consumed = λ g k e. absurd (true_false false k refl);
+    own_covered = λ n low high. absurd (omega (arith, low, high));
+    recorded = λ u a. absurd a;
+    one_each = λ u v a b s. absurd a;
+  };
+  made = λ u a. absurd a;
+  no_root = λ u a. absurd a;
+  member =
+      let s = (fresh_sound (λ d. kind)).members own in
+      same_sound (λ u. In u []) (IsRecord [] (fresh_member kind).known) (λ u. In u []) (λ u. In u []) own (fresh_member kind) (record { to = λ u r. r.among.0; back = λ u a. absurd a }) s s.objects.kinds;
 }
