@@ -1,1 +1,3 @@
 mod Made
+pub mod Cases
+pub mod Shown
