@@ -9,3 +9,4 @@ pub mod Rounds
 pub mod Flight
 pub mod Lives
 pub mod Counting
+pub mod Examples
