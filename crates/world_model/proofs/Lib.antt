@@ -1,5 +1,14 @@
 pub mod Changing
 pub mod Facts
+pub mod Names
+pub mod Writing
+pub mod Chains
+pub mod Writes
+pub mod Locally
+pub mod Installed
+pub mod Consumed
+pub mod Adopted
+pub mod Folder
 pub mod Growth
 pub mod Versions
 pub mod Puts
@@ -8,5 +17,6 @@ pub mod Fresh
 pub mod Rounds
 pub mod Flight
 pub mod Lives
+pub mod Steps
 pub mod Counting
 pub mod Examples

@@ -1,5 +1,5 @@
 // What holds of every run.
-ghost use Rattle.world_model.specs.Laws.{AdoptionsAreFit, AllIsCounted, CoverIsStable, CoveredIsHeld, EqualVectorsHaveEqualRecords, FinishedRoundsAreHeld, FlightsCanLand, FreshWorldsAreSound, RoundsStayTrue, StaysCovered};
+ghost use Rattle.world_model.specs.Laws.{AdoptionsAreFit, AllFoldersStaySound, AllIsCounted, CoverIsStable, CoveredIsHeld, EqualVectorsHaveEqualRecords, EventsKeepTheInvariant, FinishedRoundsAreHeld, FlightsCanLand, FreshWorldsAreSound, LivesAreSound, PendingObjectsStay, RoundsStayTrue, RunsKeepTheInvariant, StaysCovered};
 
 /// Members that have done nothing keep the invariant.
 pub fn fresh_worlds_are_sound()
@@ -51,4 +51,31 @@ pub fn adoptions_are_fit()
 /// An event in flight when its member stopped can have its change when the member starts again.
 pub fn flights_can_land()
     ensures { FlightsCanLand }
+{}
+
+/// Every event keeps the invariant.
+pub fn events_keep_the_invariant()
+    ensures { EventsKeepTheInvariant }
+{}
+
+/// Every run keeps the invariant, and All, what is consumed, what is covered and what was sent only
+/// grow in it.
+pub fn runs_keep_the_invariant()
+    ensures { RunsKeepTheInvariant }
+{}
+
+/// A member alone stays sound under its own operations, its installer, its journal and every
+/// adoption that is fit, whatever its partners send.
+pub fn folders_stay_sound()
+    ensures { AllFoldersStaySound }
+{}
+
+/// No operation of the installer changes an object with a pending local record.
+pub fn pending_objects_stay()
+    ensures { PendingObjectsStay }
+{}
+
+/// Events, stops and restarts keep the invariant, and each event in flight can still land.
+pub fn lives_are_sound()
+    ensures { LivesAreSound }
 {}
