@@ -20,3 +20,4 @@ pub mod Lives
 pub mod Steps
 pub mod Counting
 pub mod Examples
+pub mod Trees
