@@ -19,3 +19,5 @@ pub mod Flight
 pub mod Lives
 pub mod Steps
 pub mod Counting
+pub mod Examples
+pub mod Trees

@@ -1,5 +1,5 @@
 // What holds of every run.
-ghost use Rattle.world_model.specs.Laws.{AdoptionsAreFit, AllFoldersStaySound, AllIsCounted, CoverIsStable, CoveredIsHeld, EqualVectorsHaveEqualRecords, EventsKeepTheInvariant, FinishedRoundsAreHeld, FlightsCanLand, FoldersBeginSound, FreshWorldsAreSound, LivesAreSound, PendingObjectsStay, RoundsStayTrue, RunsKeepTheInvariant, StaysCovered};
+ghost use Rattle.world_model.specs.Laws.{AdoptionsAreFit, AllFoldersStaySound, AllIsCounted, CoverIsStable, CoveredIsHeld, DrainedVolumesAreTrees, EqualVectorsHaveEqualRecords, EqualVectorsHaveEqualTrees, EventsKeepTheInvariant, FinishedRoundsAreHeld, FlightsCanLand, FoldersBeginSound, FreshWorldsAreSound, LivesAreSound, PendingObjectsStay, RoundsStayTrue, RunsKeepTheInvariant, StaysCovered};
 
 /// Members that have done nothing keep the invariant.
 pub fn fresh_worlds_are_sound()
@@ -31,6 +31,17 @@ pub fn what_is_sent_stays_covered()
 /// Members that cover the same versions have the same records, at one moment or at two.
 pub fn equal_vectors_have_equal_records()
     ensures { EqualVectorsHaveEqualRecords }
+{}
+
+/// The tree of a drained member's volume is the tree of its records: what its paths lead to, with
+/// kinds and sums.
+pub fn drained_volumes_are_trees()
+    ensures { DrainedVolumesAreTrees }
+{}
+
+/// Drained members that cover the same versions have the same trees, at one moment or at two.
+pub fn equal_vectors_have_equal_trees()
+    ensures { EqualVectorsHaveEqualTrees }
 {}
 
 /// A round stays true, whatever happens in it or beside it.
