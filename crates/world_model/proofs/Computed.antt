@@ -1,5 +1,5 @@
 -- Winners among a few updates, by computing.
-use Rattle.std.proofs.Common.{◌≡◌, ◌≢◌, ◌⊎◌, ◌≤◌, ℕ, zero, suc, Bool, true, false, not, ◌&&◌, List, [], ◌∷◌, refl, sym, ap, ◌∙◌, subst, inl, inr, Option, Some, None}
+use Rattle.std.proofs.Common.{◌≡◌, ◌≢◌, ◌⊎◌, ℕ, zero, suc, Bool, true, false, not, ◌&&◌, List, [], ◌∷◌, refl, sym, ap, subst, inl, inr, Option, Some}
 use Rattle.frs_base.specs.Options.{In}
 use Rattle.frs_base.specs.Versions.{same_uid}
 use Rattle.frs_base.specs.declared.version.Uid.{Uid}
@@ -7,14 +7,12 @@ use Rattle.win_order.specs.Order.{Beats, key_lt, key_of}
 use Rattle.win_order.specs.declared.update.Update.{Update}
 use Rattle.win_order.proofs.KeyLemmas.{key_asym}
 use Rattle.vol_state.specs.declared.object.Object.{Object}
-use Rattle.vol_state.specs.declared.record.VolRecord.{VolRecord}
 use Rattle.vol_state.specs.Conditions.{root_uid}
-use Rattle.vol_state.specs.Maps.{Maps, with_at, written}
-use Rattle.record_db.specs.Records.{Covered, IsHeldOrBeaten, IsRecord, IsWinner, Versions}
+use Rattle.vol_state.specs.Maps.{Maps, written}
+use Rattle.record_db.specs.Records.{IsRecord, IsWinner, Versions}
 use Rattle.record_db.proofs.Keys.{key_irrefl, same_uid_is, same_uid_refl}
 use Rattle.name_rules.specs.Next.{IsQuiet}
 use Rattle.name_rules.specs.Tree.{IsShown, ShownBy}
-use Rattle.name_rules.proofs.Shown.{shown_record}
 use Rattle.world_model.specs.World.{World, IsRecordOf}
 use Rattle.world_model.specs.Events.{IsAllHeld}
 use Rattle.world_model.specs.Examples.{IsOnly}

@@ -1,17 +1,15 @@
 -- The small worlds, computed.
-use Rattle.std.proofs.Common.{◌≡◌, ◌≢◌, ◌⊎◌, ◌+◌, ℕ, zero, suc, Bool, true, false, List, [], ◌∷◌, drop, refl, sym, ap, ◌∙◌, subst, arith, inl, inr, Option, Some, None}
+use Rattle.std.proofs.Common.{◌≡◌, ◌≢◌, ◌⊎◌, zero, suc, true, false, [], ◌∷◌, drop, refl, sym, ap, ◌∙◌, subst, arith, inl, inr, Some, None}
 use Rattle.frs_base.specs.Options.{In}
 use Rattle.win_order.specs.Order.{Beats, key_lt, key_of}
 use Rattle.win_order.specs.declared.update.Update.{Update}
-use Rattle.win_order.proofs.KeyLemmas.{key_asym}
 use Rattle.frs_base.specs.declared.kind.Kind.TheVariants.{File}
 use Rattle.vol_state.specs.declared.command.VolCmd.TheVariants.{Make, Place, PutNew, PutOver}
 use Rattle.record_db.specs.Records.{Covered, IsRecord, IsWinner, Versions, plus}
 use Rattle.name_rules.specs.Tree.{IsShown}
-use Rattle.record_db.proofs.Keys.{key_irrefl}
 use Rattle.world_model.specs.World.{World, IsRecordOf, with_member}
 use Rattle.world_model.specs.Events.{adopted_by, consumes, finished_by, operated, sends_update, sends_vector, unstaged_at}
-use Rattle.world_model.specs.Examples.{IsOnly, ParentCycle, Superseded, Tie, cycle, begin, changed_vector, file, first_vector, installed_vector, last_vector, moved_p, moved_q, superseded, tie, uid_p, uid_q, version, x}
+use Rattle.world_model.specs.Examples.{IsOnly, ParentCycle, Superseded, Tie, cycle, begin, changed_vector, file, first_vector, installed_vector, last_vector, moved_p, moved_q, superseded, tie, uid_p, version, x}
 use Rattle.world_model.specs.Runs.{Run}
 use Rattle.vol_state.specs.Conditions.{root_uid}
 use Rattle.vol_state.specs.Maps.{fresh_maps}

@@ -1,5 +1,5 @@
 -- The tree of a drained volume is that of its records.
-use Rattle.std.proofs.Common.{◌≡◌, ◌≢◌, ◌↔◌, ℕ, zero, suc, Bool, true, false, cond, not, ◌&&◌, List, [], ◌∷◌, refl, sym, ap, ◌∙◌, subst, inl, inr, Option, Some, None}
+use Rattle.std.proofs.Common.{◌≡◌, ℕ, zero, suc, Bool, true, false, cond, not, ◌&&◌, List, [], ◌∷◌, refl, sym, ap, ◌∙◌, subst, inl, inr, Option, Some, None}
 use Rattle.frs_base.specs.Options.{In}
 use Rattle.frs_base.specs.declared.kind.Kind.{Kind}
 use Rattle.frs_base.specs.declared.sum.Sum.{Sum}
@@ -117,7 +117,7 @@ to_records all own x h (name ∷ []) f parent o e (g, at, place) =
 to_records all own x h (name ∷ next ∷ path) f parent o e (g, up, at, place, s) =
     let (v, shown, uid, p, n) = h.drained.park g up _ at place in
     let is_dir : is_directory v ≡ true = same_kind all own x h g up v at (sym uid) (shown_record (IsRecord all x.known) v shown)
-        ∙ directory_kind all own x h g up at (parent_directory all own x h (next ∷ path) g o s) in
+    ∙ directory_kind all own x h g up at (parent_directory all own x h (next ∷ path) g o s) in
     let (u, under, uid', shown', there) = to_records all own x h (next ∷ path) g v.uid o (uid ∙ sym (uid_is all own x h g up at)) s in
     (u, (v, shown, p ∙ sym e, n, is_dir, under), uid', shown', there)
 

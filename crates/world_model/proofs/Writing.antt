@@ -1,14 +1,12 @@
 -- Each command as one write of an object, of the kind that its condition names.
-use Rattle.std.proofs.Common.{◌≡◌, ◌+◌, ℕ, Bool, true, false, List, [], max, refl, ap, Option, Some, None}
+use Rattle.std.proofs.Common.{◌≡◌, ◌+◌, ℕ, Bool, List, max, ap, Option, Some, None}
 use Rattle.std.specs.Prelude.{option_map}
 use Rattle.frs_base.specs.declared.kind.Kind.{Kind}
-use Rattle.frs_base.specs.declared.kind.Kind.TheVariants.{File, Directory}
 use Rattle.frs_base.specs.declared.version.Uid.{Uid}
 use Rattle.vol_state.specs.declared.object.Object.{Object}
 use Rattle.vol_state.specs.declared.record.VolRecord.{VolRecord}
-use Rattle.vol_state.specs.declared.command.VolCmd.TheVariants.{PutNew, PutOver, Mkdir, Move, Remove, Park, Erase, Make, Rewrite, Place}
-use Rattle.vol_state.specs.Effects.{at_place, no_sum, stamp, uid_found, with_bytes}
-use Rattle.vol_state.specs.Maps.{Maps, changes, loses, with_at, write, written}
+use Rattle.vol_state.specs.Effects.{no_sum, stamp, uid_found}
+use Rattle.vol_state.specs.Maps.{Maps, changes, loses, with_at, written}
 use Rattle.vol_state.specs.State.{uid_of}
 use Rattle.vol_state.specs.Tables.{IsAt}
 

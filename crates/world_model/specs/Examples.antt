@@ -1,5 +1,5 @@
 -- Three small worlds. Member 1 is primary, all others are plain.
-use Rattle.std.specs.Prelude.{◌≡◌, ◌==◌, ℕ, Bool, true, false, if◌then◌else◌, List, [], ◌∷◌, replicate}
+use Rattle.std.specs.Prelude.{◌≡◌, ◌==◌, ℕ, true, false, if◌then◌else◌, List, [], ◌∷◌, replicate}
 use Rattle.frs_base.specs.Identifiers.{content_set}
 use Rattle.frs_base.specs.declared.kind.Kind.TheVariants.{File}
 use Rattle.frs_base.specs.declared.kind.MemberKind.TheVariants.{Plain, Primary}

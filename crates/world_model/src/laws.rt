@@ -1,5 +1,5 @@
 // What holds of every run.
-ghost use Rattle.world_model.specs.Laws.{AdoptionsAreFit, AllFoldersStaySound, AllIsCounted, CoverIsStable, CoveredIsHeld, DrainedVolumesAreTrees, EqualVectorsHaveEqualRecords, EqualVectorsHaveEqualTrees, EventsKeepTheInvariant, FinishedRoundsAreHeld, FlightsCanLand, FreshWorldsAreSound, LivesAreSound, PendingObjectsStay, RoundsStayTrue, RunsKeepTheInvariant, StaysCovered};
+ghost use Rattle.world_model.specs.Laws.{AdoptionsAreFit, AllFoldersStaySound, AllIsCounted, CoverIsStable, CoveredIsHeld, DrainedVolumesAreTrees, EqualVectorsHaveEqualRecords, EqualVectorsHaveEqualTrees, EventsKeepTheInvariant, FinishedRoundsAreHeld, FlightsCanLand, FoldersBeginSound, FreshWorldsAreSound, LivesAreSound, PendingObjectsStay, RoundsStayTrue, RunsKeepTheInvariant, StaysCovered};
 
 /// Members that have done nothing keep the invariant.
 pub fn fresh_worlds_are_sound()
@@ -73,6 +73,11 @@ pub fn events_keep_the_invariant()
 /// grow in it.
 pub fn runs_keep_the_invariant()
     ensures { RunsKeepTheInvariant }
+{}
+
+/// A member alone that has done nothing is sound.
+pub fn folders_begin_sound()
+    ensures { FoldersBeginSound }
 {}
 
 /// A member alone stays sound under its own operations, its installer, its journal and every
