@@ -1,8 +1,8 @@
 -- No bytes have two causes of a status, nor two texts to be written.
-use Rattle.std.proofs.Common.{◌≡◌, ◌<◌, ◌≤◌, inl, inr, ℕ, List, sym, ap, ◌∙◌, subst, arith}
+use Rattle.std.proofs.Common.{◌≤◌, inl, inr, ℕ, List, sym, ap, ◌∙◌, subst, arith}
 use Rattle.std.specs.Prelude.{count_by}
 use Rattle.script_lang.specs.declared.line.Line.{Line}
-use Rattle.dfsr.specs.Answers.{IsAnswer, IsBad, IsProper, IsTooLarge, makes_member}
+use Rattle.dfsr.specs.Answers.{IsBad, IsProper, IsTooLarge, makes_member}
 use Rattle.dfsr.specs.Laws.{AllCausesDiffer, BadLinesAreOne, OneText}
 use Rattle.dfsr.specs.Script.{bad_line}
 use Rattle.dfsr.specs.Text.{Prints}

@@ -1,6 +1,6 @@
 -- Rows that spell lines of the program, and the first row outside its grammar.
 use Rattle.std.proofs.Common.{◌≡◌, inl, inr, ◌<◌, ◌≤◌, ◌-◌, ℕ, Bool, true, false, cond, not, ltb, List, [], ◌∷◌, length, get_or, take, Option, Some, None, MatchOption, refl, sym, ap, ◌∙◌, subst, arith}
-use Rattle.std.specs.Prelude.{All, count_by, position, slice_get}
+use Rattle.std.specs.Prelude.{All, count_by, position}
 use Rattle.std.specs.List.{position_or_len}
 use Rattle.std.proofs.lemmas.Bool.Decides.{nat_tests}
 use Rattle.std.proofs.lemmas.List.{get_or-take, length-map, length-take, take_all}

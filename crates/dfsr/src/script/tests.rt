@@ -131,7 +131,10 @@ fn rows_outside_the_grammar(rt: HostRuntime) -> Result<(), Fail> {
 fn empty_rows_and_comments_are_counted(rt: HostRuntime) -> Result<(), Fail> {
     let rows = [
         ("\n\nfrob", 3),
-        ("# frob\n\nmember a plain\n# x\n\nshow a\nshow  a\nfrob\n", 7),
+        (
+            "# frob\n\nmember a plain\n# x\n\nshow a\nshow  a\nfrob\n",
+            7,
+        ),
         ("member a plain\n\n \n", 3),
         ("#\n#\n#\nshow a\n\u{a0}\n", 5),
     ];
