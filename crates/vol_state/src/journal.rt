@@ -1,12 +1,10 @@
 // The journal of a volume.
 ghost use Rattle.std.specs.Prelude.{◌≡◌, ◌<◌, ◌==◌, ◌&&◌, ◌∷◌, ◌++◌, [], true, ◌+◌, length, OnOk, filter, find, nat_le, option_copied, slice_get};
 ghost use Rattle.frs_base.specs.Versions.{same_uid};
-ghost use Rattle.vol_state.specs.Rows.{items_of, room_of};
 ghost use Rattle.vol_state.specs.Journal.{RunsFrom, last_local, pending_local, record_at};
 
 use crate::VolRecord;
-use crate::rows::{items, push_reserved, reserve_one};
-use frs_base::Uid;
+use frs_base::{ReservedVec, Uid};
 use std::alloc::{AllocError, Global};
 use std::marker::Model;
 
@@ -18,22 +16,22 @@ pub(crate) const FIRST_USN: u64 = 9;
 /// A contract sees the records, and for how many more there is room.
 #[derive(Drop)]
 pub(crate) struct Journal {
-    records: Option<Vec<VolRecord>>,
+    records: ReservedVec<VolRecord>,
     // Whether the USNs run from the first without a gap: then a record's place tells its USN.
     runs: bool,
 }
 
 impl Model for Journal {
     ghost use Rattle.std.specs.Prelude.{◌≡◌, true};
-    ghost use Rattle.vol_state.specs.Rows.{items_of, room_of};
-    ghost use Rattle.vol_state.specs.Seen.{Logged};
+    ghost use Rattle.frs_base.specs.Reserved.{Reserved};
+    ghost use Rattle.vol_state.specs.declared.record.VolRecord.{VolRecord};
     ghost use Rattle.vol_state.specs.Journal.{RunsFrom};
 
-    ghost Value = { Logged };
+    ghost Value = { Reserved VolRecord };
 
-    ghost view = { λ journal. record { items = items_of journal.records; room = room_of journal.records } };
+    ghost view = { λ journal. journal.records };
 
-    ghost invariant = { λ journal. journal.runs ≡ true → RunsFrom 9 (items_of journal.records) };
+    ghost invariant = { λ journal. journal.runs ≡ true → RunsFrom 9 journal.records.items };
 }
 
 /// The record at an index.
@@ -99,7 +97,7 @@ impl Journal {
         ensures { result.items ≡ [] }
     {
         Journal {
-            records: None,
+            records: ReservedVec::empty(),
             runs: true,
         }
     }
@@ -108,7 +106,7 @@ impl Journal {
     pub(crate) fn as_slice(&self) -> &[VolRecord]
         ensures { result.now ≡ self.now.items }
     {
-        items(&self.records)
+        self.records.as_slice()
     }
 
     /// The first record with this USN.
@@ -116,7 +114,7 @@ impl Journal {
         ensures { option_copied result ≡ record_at self.now.items usn }
     {
         if self.runs {
-            return record_by_index(items(&self.records), usn);
+            return record_by_index(self.records.as_slice(), usn);
         }
         self.as_slice().iter().find(|record| record.usn == usn)
     }
@@ -133,7 +131,7 @@ impl Journal {
         ensures { result ≡ pending_local self.now.items uid from }
     {
         if self.runs {
-            let recent = records_from(items(&self.records), from);
+            let recent = records_from(self.records.as_slice(), from);
             return last_pending(recent, uid, from);
         }
         last_pending(self.as_slice(), uid, from)
@@ -144,7 +142,7 @@ impl Journal {
         ensures same { self.new.items ≡ self.old.items }
         ensures room { OnOk result (0 < self.new.room) }
     {
-        reserve_one(alloc, &mut self.records)
+        self.records.reserve_one(alloc)
     }
 
     /// Adds a record, for which there is room.
@@ -152,7 +150,7 @@ impl Journal {
         requires { 0 < self.old.room }
         ensures { self.new.items ≡ self.old.items ++ entry ∷ [] }
     {
-        self.runs = runs_on(self.runs, items(&self.records), entry.usn);
-        push_reserved(&mut self.records, entry);
+        self.runs = runs_on(self.runs, self.records.as_slice(), entry.usn);
+        self.records.push(entry);
     }
 }

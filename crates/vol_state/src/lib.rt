@@ -20,7 +20,6 @@ mod operation;
 mod paths;
 mod record;
 mod replica;
-mod rows;
 mod shelf;
 mod tree;
 mod volume;
