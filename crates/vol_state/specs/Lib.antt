@@ -1,4 +1,3 @@
-pub mod Rows
 pub mod Places
 pub mod Paths
 pub mod Tree
@@ -15,3 +14,4 @@ pub mod Seen
 pub mod Maps
 pub mod Tables
 pub mod Ways
+pub mod Pending
