@@ -21,3 +21,5 @@ pub mod Steps
 pub mod Counting
 pub mod Examples
 pub mod Trees
+pub mod Progress
+pub mod Due
