@@ -98,14 +98,15 @@ HaveContents staged = (uid : Uid) (sum : Sum) → staged uid ≡ Some sum → (b
 abbrev pub CanBeDone : World → ℕ → InstallStep → Type 0
 CanBeDone w d step = (op : VolCmd) × (new : World) × IsStepOf (IsRecordOf w d) d (w.at d).volume step op × Step w d (Install op) new
 
--- each next step but the last two kinds, which leave the volume alone, can be done
+-- a step on the volume: none of the last two kinds
+abbrev pub IsVolumeStep : InstallStep → Type 0
+IsVolumeStep step = ((uid : Uid) → step ≢ InstallStep.Unstage uid) × ((usn : ℕ) → step ≢ InstallStep.Skip usn)
+
+-- each next step on the volume can be done
 abbrev pub NextStepsCanBeDone : Type 0
 NextStepsCanBeDone = (w : World) → Invariant w → (d : ℕ) → HaveContents (w.at d).staged → IsQuiet (w.at d).consumed (w.at d).volume → (step : InstallStep)
     → IsTurn (IsRecordOf w d) d (w.at d).volume (w.at d).staged step → IsCandidate (IsRecordOf w d) d (w.at d).volume (w.at d).staged (w.at d).consumed step
     → IsVolumeStep step → CanBeDone w d step
-  where
-    IsVolumeStep : InstallStep → Type 0
-    IsVolumeStep step = ((uid : Uid) → step ≢ InstallStep.Unstage uid) × ((usn : ℕ) → step ≢ InstallStep.Skip usn)
 
 -- no operation of the installer changes an object with a pending local record
 abbrev pub PendingObjectsStay : Type 0
@@ -171,20 +172,20 @@ SeesAt w d uid v = Sees (IsRecordOf w d) d (w.at d).volume (w.at d).staged uid v
 abbrev pub AtMostFourAreDue : Type 0
 AtMostFourAreDue = (w : World) → Invariant w → (d : ℕ) (uid : Uid) (v : View) → SeesAt w d uid v → due v ≤ 4
 
--- each next step that is done lowers what is due for its file, and raises it for none; so at most four a file are done until the member is drained
-abbrev pub StepsLowerWhatIsDue : Type 0
-StepsLowerWhatIsDue = (w : World) → Invariant w → (d : ℕ) (step : InstallStep) (uid : Uid) (new : World)
-    → IsTurn (IsRecordOf w d) d (w.at d).volume (w.at d).staged step → IsCandidate (IsRecordOf w d) d (w.at d).volume (w.at d).staged (w.at d).consumed step
-    → IsDone step uid w d new → Lowers (SeesAt w d) (SeesAt new d) uid
-  where
-    by_operation : InstallStep → World → ℕ → World → Type 0
-    by_operation step w d new = (op : VolCmd) × IsStepOf (IsRecordOf w d) d (w.at d).volume step op × Step w d (Install op) new
+-- the operation of a step is done
+abbrev pub IsOperated : World → ℕ → InstallStep → World → Type 0
+IsOperated w d step new = (op : VolCmd) × IsStepOf (IsRecordOf w d) d (w.at d).volume step op × Step w d (Install op) new
 
-    IsDone : InstallStep → Uid → World → ℕ → World → Type 0
-    IsDone (InstallStep.Unstage file) uid w d new = (uid ≡ file) × Step w d (Unstage file) new
-    IsDone (InstallStep.Skip usn) uid w d new = ⊥
-    IsDone (InstallStep.Park file) uid w d new = (uid ≡ file) × by_operation (InstallStep.Park file) w d new
-    IsDone (InstallStep.Erase file) uid w d new = (uid ≡ file) × by_operation (InstallStep.Erase file) w d new
-    IsDone (InstallStep.Make file) uid w d new = (uid ≡ file) × by_operation (InstallStep.Make file) w d new
-    IsDone (InstallStep.Rewrite file) uid w d new = (uid ≡ file) × by_operation (InstallStep.Rewrite file) w d new
-    IsDone (InstallStep.Place file) uid w d new = (uid ≡ file) × by_operation (InstallStep.Place file) w d new
+-- a step is done for its file; the last kind is for none
+abbrev pub IsDone : World → ℕ → InstallStep → Uid → World → Type 0
+IsDone w d (InstallStep.Park file) uid new = (uid ≡ file) × IsOperated w d (InstallStep.Park file) new
+IsDone w d (InstallStep.Erase file) uid new = (uid ≡ file) × IsOperated w d (InstallStep.Erase file) new
+IsDone w d (InstallStep.Make file) uid new = (uid ≡ file) × IsOperated w d (InstallStep.Make file) new
+IsDone w d (InstallStep.Rewrite file) uid new = (uid ≡ file) × IsOperated w d (InstallStep.Rewrite file) new
+IsDone w d (InstallStep.Place file) uid new = (uid ≡ file) × IsOperated w d (InstallStep.Place file) new
+IsDone w d (InstallStep.Unstage file) uid new = (uid ≡ file) × Step w d (Unstage file) new
+IsDone w d (InstallStep.Skip usn) uid new = ⊥
+
+-- each step that is done lowers what is due for its file, and raises it for none
+abbrev pub StepsLowerWhatIsDue : Type 0
+StepsLowerWhatIsDue = (w : World) → Invariant w → (d : ℕ) (step : InstallStep) (uid : Uid) (new : World) → IsDone w d step uid new → Lowers (SeesAt w d) (SeesAt new d) uid

@@ -1,5 +1,5 @@
 // What holds of every run.
-ghost use Rattle.world_model.specs.Laws.{AdoptionsAreFit, AllFoldersStaySound, AllIsCounted, CoverIsStable, CoveredIsHeld, DrainedVolumesAreTrees, EqualVectorsHaveEqualRecords, EqualVectorsHaveEqualTrees, EventsKeepTheInvariant, FinishedRoundsAreHeld, FlightsCanLand, FoldersBeginSound, FreshWorldsAreSound, LivesAreSound, NextStepsCanBeDone, PendingObjectsStay, RoundsStayTrue, RunsKeepTheInvariant, StaysCovered};
+ghost use Rattle.world_model.specs.Laws.{AdoptionsAreFit, AllFoldersStaySound, AllIsCounted, AtMostFourAreDue, CoverIsStable, CoveredIsHeld, DrainedVolumesAreTrees, EqualVectorsHaveEqualRecords, EqualVectorsHaveEqualTrees, EventsKeepTheInvariant, FinishedRoundsAreHeld, FlightsCanLand, FoldersBeginSound, FreshWorldsAreSound, LivesAreSound, NextStepsCanBeDone, PendingObjectsStay, RoundsStayTrue, RunsKeepTheInvariant, StaysCovered, StepsLowerWhatIsDue};
 
 /// Members that have done nothing keep the invariant.
 pub fn fresh_worlds_are_sound()
@@ -100,4 +100,14 @@ pub fn lives_are_sound()
 /// record is pending and what is staged has contents.
 pub fn next_steps_can_be_done()
     ensures { NextStepsCanBeDone }
+{}
+
+/// At most four things are due for a file.
+pub fn at_most_four_are_due()
+    ensures { AtMostFourAreDue }
+{}
+
+/// Each step of the installer that is done lowers what is due for its file, and raises it for none.
+pub fn steps_lower_what_is_due()
+    ensures { StepsLowerWhatIsDue }
 {}
