@@ -31,6 +31,7 @@ use Rattle.world_model.proofs.Changing.{at_same, uid_other, uid_same}
 use Rattle.world_model.proofs.Facts.{at_case, none_some, some_is, true_false}
 use Rattle.world_model.proofs.Writing.{changes_is, logs, loses_is, made_object, wrote}
 use Rattle.world_model.proofs.Chains.{beside, there}
+use Rattle.world_model.proofs.Deciding.{AreOne}
 use Rattle.world_model.proofs.Installed.{file_present}
 use Rattle.world_model.proofs.Locally.{fid_is_new}
 use Rattle.world_model.proofs.Progress.{shown_name}
@@ -83,12 +84,13 @@ tells_same b c (inr t) s to back = tells_false c s (λ q. t.1 (back q)) ∙ sym 
 -- ---- what a view sees
 
 -- an object of the file is at f, and no other
-record IsSite (own : ℕ) (m : Maps) (uid : Uid) (f : ℕ) (o : Object) : Type 0 where
+pub record IsSite (own : ℕ) (m : Maps) (uid : Uid) (f : ℕ) (o : Object) : Type 0 where
   pub there : IsAt m f o
   pub is : uid_of own o ≡ uid
   pub only : (g : ℕ) (z : Object) → IsObject own m uid g z → (g ≡ f) × (o ≡ z)
 
-site : (own : ℕ) (m : Maps) (f : ℕ) (o : Object) (uid : Uid) → PlacesAreATree own m → IsAt m f o → uid_of own o ≡ uid → IsSite own m uid f o
+-- that of a volume
+pub site : (own : ℕ) (m : Maps) (f : ℕ) (o : Object) (uid : Uid) → PlacesAreATree own m → IsAt m f o → uid_of own o ≡ uid → IsSite own m uid f o
 site own m f o uid tree at is = record { there = at; is = is; only = λ g z k. let e : g ≡ f = tree.uids g f z o k.0 at (k.1 ∙ sym is) in (e, some_is o z (sym at ∙ subst (λ i. m.at i ≡ Some z) e k.0)) }
 
 -- likewise of an object that is written, where no other is of the file
@@ -124,10 +126,6 @@ sees_none R own m staged uid v s none = (
   tells_false v.exact s.exact (λ (g, z, p, u, k, place, r, id, up, name). none g z k.0 k.1),
   tells_false v.differs s.differs (λ (g, z, u, k, r, id, ne). none g z k.0 k.1),
 )
-
--- a file has one record
-abbrev AreOne : (Update → Type 0) → Type 0
-AreOne R = (u v : Update) → R u → R v → u.uid ≡ v.uid → u ≡ v
 
 sees_differs : (R : Update → Type 0) (own : ℕ) (m : Maps) (staged : Uid → Option Sum) (uid : Uid) (v : View) (f : ℕ) (o : Object) (r : Update) → AreOne R → Sees R own m staged uid v → IsSite own m uid f o
     → R r → r.uid ≡ uid → o.sum ≡ r.hash → v.differs ≡ false

@@ -22,4 +22,6 @@ pub mod Counting
 pub mod Examples
 pub mod Trees
 pub mod Progress
+pub mod Deciding
 pub mod Due
+pub mod Views

@@ -1,6 +1,7 @@
 -- What holds of every run.
-use Rattle.std.specs.Prelude.{◌≡◌, ◌≢◌, ◌↔◌, ◌<◌, ◌≤◌, ◌-◌, ◌+◌, ℕ, true, false, All, List, [], Option, Some, length, sum_by}
+use Rattle.std.specs.Prelude.{◌≡◌, ◌≢◌, ◌↔◌, ◌<◌, ◌≤◌, ◌-◌, ◌+◌, ℕ, true, false, All, List, [], ◌∷◌, Option, Some, count_by, length, sum_by}
 use Rattle.frs_base.specs.Options.{In}
+use Rattle.frs_base.specs.Versions.{same_uid}
 use Rattle.frs_base.specs.declared.kind.Kind.{Kind}
 use Rattle.frs_base.specs.declared.kind.Kind.TheVariants.{File}
 use Rattle.frs_base.specs.declared.kind.MemberKind.{MemberKind}
@@ -168,6 +169,10 @@ FlightsCanLand = (l : Life) (d : ℕ) (e : Event) (after : Member) → IsInFligh
 abbrev pub SeesAt : World → ℕ → Uid → View → Type 0
 SeesAt w d uid v = Sees (IsRecordOf w d) d (w.at d).volume (w.at d).staged uid v
 
+-- each file of every world that keeps the invariant has a view
+abbrev pub ViewsAreThere : Type 0
+ViewsAreThere = (w : World) → Invariant w → (d : ℕ) (uid : Uid) → (v : View) × SeesAt w d uid v
+
 -- at most four things are due for a file
 abbrev pub AtMostFourAreDue : Type 0
 AtMostFourAreDue = (w : World) → Invariant w → (d : ℕ) (uid : Uid) (v : View) → SeesAt w d uid v → due v ≤ 4
@@ -189,3 +194,12 @@ IsDone w d (InstallStep.Skip usn) uid new = ⊥
 -- each step that is done lowers what is due for its file, and raises it for none
 abbrev pub StepsLowerWhatIsDue : Type 0
 StepsLowerWhatIsDue = (w : World) → Invariant w → (d : ℕ) (step : InstallStep) (uid : Uid) (new : World) → IsDone w d step uid new → Lowers (SeesAt w d) (SeesAt new d) uid
+
+-- steps are done at a member, one after the other, for these files
+abbrev pub AreDone : World → ℕ → List Uid → World → Type 0
+AreDone w d [] new = new ≡ w
+AreDone w d (uid ∷ uids) new = (step : InstallStep) × (mid : World) × IsDone w d step uid mid × AreDone mid d uids new
+
+-- so at most four are done for a file, where nothing else happens between them
+abbrev pub AtMostFourAreDone : Type 0
+AtMostFourAreDone = (w : World) → Invariant w → (d : ℕ) (uids : List Uid) (new : World) → AreDone w d uids new → (uid : Uid) → count_by (λ other. same_uid other uid) uids ≤ 4
