@@ -1,7 +1,8 @@
 -- How much is due for a file, and what each step of the installer does to it.
-use Rattle.std.proofs.Common.{◌≡◌, ◌≢◌, ◌<◌, ◌≤◌, ◌&&◌, ℕ, Bool, true, false, cond, eqb, List, refl, sym, ap, ◌∙◌, subst, arith, inl, inr, Option, Some, None}
+use Rattle.std.proofs.Common.{◌≡◌, ◌≢◌, ◌<◌, ◌≤◌, ◌&&◌, ℕ, Bool, true, false, cond, eqb, List, [], ◌++◌, refl, sym, ap, ◌∙◌, subst, arith, inl, inr, Option, Some, None}
 use Rattle.std.proofs.lemmas.Bool.{cases_eq}
 use Rattle.frs_base.specs.Options.{In}
+use Rattle.frs_base.specs.Versions.{same_uid}
 use Rattle.frs_base.specs.declared.kind.Kind.{Kind}
 use Rattle.frs_base.specs.declared.sum.Sum.{Sum}
 use Rattle.frs_base.specs.declared.version.Uid.{Uid}
@@ -15,15 +16,17 @@ use Rattle.vol_state.specs.Effects.{at_place, stamp, uid_found, with_bytes}
 use Rattle.vol_state.specs.Conditions.{root_uid}
 use Rattle.vol_state.specs.Maps.{Maps, write}
 use Rattle.vol_state.specs.Tables.{IsAt, IsDirectory, IsEmpty, IsNew, IsReplica}
-use Rattle.record_db.specs.Records.{IsRecord}
-use Rattle.record_db.proofs.Best.{best_one}
-use Rattle.record_db.proofs.Keys.{uid_cases}
-use Rattle.name_rules.specs.Recorded.{parent_uid}
+use Rattle.record_db.specs.Records.{Covered, IsRecord}
+use Rattle.record_db.proofs.Best.{best_one, best_same}
+use Rattle.record_db.proofs.Sets.{in_before, plus_old}
+use Rattle.record_db.proofs.Keys.{same_uid_is, uid_cases}
+use Rattle.name_rules.specs.Recorded.{base_fence, is_deletion, parent_uid}
 use Rattle.name_rules.specs.Tree.{IsShown, is_file, kind_of}
-use Rattle.name_rules.specs.Next.{IsDue, IsInPlace, Step as InstallStep}
-use Rattle.name_rules.proofs.Shown.{shown_record}
+use Rattle.name_rules.specs.Next.{IsDue, IsInPlace, IsQuiet, Step as InstallStep}
+use Rattle.name_rules.proofs.Cases.{made_by}
+use Rattle.name_rules.proofs.Shown.{AreSame, same_back, shown_record, shown_same}
 use Rattle.world_model.specs.World.{Member, World, IsRecordOf, with_member, with_uid}
-use Rattle.world_model.specs.Events.{Install, Step, operated, unstaged_at}
+use Rattle.world_model.specs.Events.{Install, Records, Step, consumed_by, consumes, operated, unstaged_at}
 use Rattle.world_model.specs.Invariant.{Invariant, NumbersAreFresh, PlacesAreATree}
 use Rattle.world_model.specs.Due.{IsObject, Lowers, Sees, Tells, View, due}
 use Rattle.world_model.specs.Laws.{AtMostFourAreDue, SeesAt, StepsLowerWhatIsDue}
@@ -35,6 +38,7 @@ use Rattle.world_model.proofs.Deciding.{AreOne}
 use Rattle.world_model.proofs.Installed.{file_present}
 use Rattle.world_model.proofs.Locally.{fid_is_new}
 use Rattle.world_model.proofs.Progress.{shown_name}
+use Rattle.world_model.proofs.Puts.{consume_none}
 
 -- ---- counting
 
@@ -203,20 +207,20 @@ parents_beside own m f o e apart g z p at place = parent_same own m (wrote m f o
 
 -- ---- one file less, and the others as they were
 
-lowers_where : {V A : Uid → View → Type 0} (uid : Uid) → ((v v' : View) → V uid v → A uid v' → due v' < due v) → ((i : Uid) (v v' : View) → i ≢ uid → V i v → A i v' → v' ≡ v) → Lowers V A uid
+lowers_where : {V A : Uid → View → Type 0} (uid : Uid) → ((v v' : View) → V uid v → A uid v' → due v' < due v) → ((i : Uid) (v v' : View) → i ≢ uid → V i v → A i v' → v' ≡ v) → Lowers V A (same_uid uid)
 lowers_where {V = V} {A = A} uid less same = record {
-  others = λ i v v' h h'. elim (uid_cases i uid) [
+  no_more = λ i v v' h h'. elim (uid_cases i uid) [
     | inl e ↦ let l : due v' < due v = less v v' (subst (λ j. V j v) e h) (subst (λ j. A j v') e h') in omega (arith, l)
     | inr n ↦ let e : due v' ≡ due v = ap due (same i v v' n h h') in omega (arith, e)
   ];
-  less = less;
+  less = λ i v v' t h h'. let e : uid ≡ i = same_uid_is uid i t in less v v' (subst (λ j. V j v) (sym e) h) (subst (λ j. A j v') (sym e) h');
 }
 
 -- an object is changed, but not its UID
 changed_lowers : (R : Update → Type 0) (own : ℕ) (m : Maps) (staged : Uid → Option Sum) (f : ℕ) (o y : Object) (e : VolRecord) (uid : Uid) → PlacesAreATree own m → IsAt m f o → uid_of own o ≡ uid
     → uid_of own y ≡ uid_of own o
     → ((v v' : View) → Sees R own m staged uid v → Sees R own (wrote m f (Some y) e) staged uid v' → IsSite own m uid f o → IsSite own (wrote m f (Some y) e) uid f y → due v' < due v)
-    → Lowers (Sees R own m staged) (Sees R own (wrote m f (Some y) e) staged) uid
+    → Lowers (Sees R own m staged) (Sees R own (wrote m f (Some y) e) staged) (same_uid uid)
 changed_lowers R own m staged f o y e uid tree at is kept less = lowers_where uid
     (λ v v' s s'. less v v' s s' old (site_written own m f y e uid (λ g z n a k. n (tree.uids g f z o a at (k ∙ sym is))) (kept ∙ is)))
     (λ i v v' n s s'. view_stays R own m (wrote m f (Some y) e) staged i v v'
@@ -254,8 +258,8 @@ no_tombstone R own m staged uid v u one s r id present = tells_false v.tombstone
 -- ---- each operation
 
 parks : (R : Update → Type 0) (own : ℕ) (m : Maps) (staged : Uid → Option Sum) (f : ℕ) (o : Object) (p : ℕ × List ℕ) (uid : Uid) → AreOne R → PlacesAreATree own m → IsAt m f o → uid_of own o ≡ uid
-    → o.place ≡ Some p → (IsInPlace R own m o p → ⊥) → Lowers (Sees R own m staged) (Sees R own (write own (cmd.Park f) m) staged) uid
-parks R own m staged f o p uid one tree at is place out = subst (λ n. Lowers (Sees R own m staged) (Sees R own n staged) uid) (sym (changes_is own 6 false f (at_place None) m o at))
+    → o.place ≡ Some p → (IsInPlace R own m o p → ⊥) → Lowers (Sees R own m staged) (Sees R own (write own (cmd.Park f) m) staged) (same_uid uid)
+parks R own m staged f o p uid one tree at is place out = subst (λ n. Lowers (Sees R own m staged) (Sees R own n staged) (same_uid uid)) (sym (changes_is own 6 false f (at_place None) m o at))
     (changed_lowers R own m staged f o y e uid tree at is refl less)
   where
     y : Object
@@ -289,8 +293,8 @@ parks R own m staged f o p uid one tree at is place out = subst (λ n. Lowers (S
         (park_lowers v (sees_object R own m staged uid v f o s here) (sees_placed R own m staged uid v f o p s here place) (apart v s here v.shown v.exact refl refl))
 
 rewrites : (R : Update → Type 0) (own : ℕ) (m : Maps) (staged : Uid → Option Sum) (f : ℕ) (o : Object) (bytes : List ℕ) (u : Update) (uid : Uid) → AreOne R → PlacesAreATree own m → IsAt m f o → uid_of own o ≡ uid
-    → R u → u.uid ≡ uid → is_file u ≡ true → o.sum ≢ u.hash → (with_bytes bytes o).sum ≡ u.hash → Lowers (Sees R own m staged) (Sees R own (write own (cmd.Rewrite f bytes) m) staged) uid
-rewrites R own m staged f o bytes u uid one tree at is r id is_present differ sum = subst (λ n. Lowers (Sees R own m staged) (Sees R own n staged) uid) (sym (changes_is own 9 false f (with_bytes bytes) m o at))
+    → R u → u.uid ≡ uid → is_file u ≡ true → o.sum ≢ u.hash → (with_bytes bytes o).sum ≡ u.hash → Lowers (Sees R own m staged) (Sees R own (write own (cmd.Rewrite f bytes) m) staged) (same_uid uid)
+rewrites R own m staged f o bytes u uid one tree at is r id is_present differ sum = subst (λ n. Lowers (Sees R own m staged) (Sees R own n staged) (same_uid uid)) (sym (changes_is own 9 false f (with_bytes bytes) m o at))
     (changed_lowers R own m staged f o y e uid tree at is refl less)
   where
     y : Object
@@ -314,9 +318,9 @@ rewrites R own m staged f o bytes u uid one tree at is r id is_present differ su
         (rewrite_lowers v (sees_object R own m staged uid v f o s here) (tells_true v.file s.file (u, r, id, is_present)) (tells_true v.differs s.differs (f, o, u, (at, is), r, id, differ)))
 
 places : (R : Update → Type 0) (own : ℕ) (m : Maps) (staged : Uid → Option Sum) (f : ℕ) (o : Object) (parent : ℕ) (name : List ℕ) (u : Update) (uid : Uid) → AreOne R → PlacesAreATree own m → IsAt m f o → uid_of own o ≡ uid
-    → o.place ≡ None → IsShown R u → u.uid ≡ uid → u.parent ≡ parent_uid own m parent → u.name ≡ name → Lowers (Sees R own m staged) (Sees R own (write own (cmd.Place f parent name) m) staged) uid
+    → o.place ≡ None → IsShown R u → u.uid ≡ uid → u.parent ≡ parent_uid own m parent → u.name ≡ name → Lowers (Sees R own m staged) (Sees R own (write own (cmd.Place f parent name) m) staged) (same_uid uid)
 places R own m staged f o parent name u uid one tree at is limbo is_shown id up named =
-    subst (λ n. Lowers (Sees R own m staged) (Sees R own n staged) uid) (sym (changes_is own 10 false f (at_place (Some (parent, name))) m o at))
+    subst (λ n. Lowers (Sees R own m staged) (Sees R own n staged) (same_uid uid)) (sym (changes_is own 10 false f (at_place (Some (parent, name))) m o at))
     (changed_lowers R own m staged f o y e uid tree at is refl less)
   where
     y : Object
@@ -341,8 +345,8 @@ places R own m staged f o parent name u uid one tree at is limbo is_shown id up 
         (place_lowers v (sees_object R own m staged uid v f o s here) (sees_limbo R own m staged uid v f o s here limbo).0 (tells_true v.shown s.shown (u, is_shown, id)))
 
 erases : (R : Update → Type 0) (own : ℕ) (m : Maps) (staged : Uid → Option Sum) (f : ℕ) (o : Object) (u : Update) (uid : Uid) → AreOne R → PlacesAreATree own m → IsAt m f o → uid_of own o ≡ uid
-    → o.place ≡ None → IsEmpty m f → R u → u.uid ≡ uid → u.present ≡ false → Lowers (Sees R own m staged) (Sees R own (write own (cmd.Erase f) m) staged) uid
-erases R own m staged f o u uid one tree at is limbo bare r id absent = subst (λ n. Lowers (Sees R own m staged) (Sees R own n staged) uid) (sym (loses_is own 7 false f m o at))
+    → o.place ≡ None → IsEmpty m f → R u → u.uid ≡ uid → u.present ≡ false → Lowers (Sees R own m staged) (Sees R own (write own (cmd.Erase f) m) staged) (same_uid uid)
+erases R own m staged f o u uid one tree at is limbo bare r id absent = subst (λ n. Lowers (Sees R own m staged) (Sees R own n staged) (same_uid uid)) (sym (loses_is own 7 false f m o at))
     (lowers_where uid less (λ i v v' n s s'. view_stays R own m new staged i v v' (stays_so own m f None e i (λ z a k. n (sym k ∙ (ap (uid_of own) (some_is z o (sym a ∙ at)) ∙ is))) (λ z a k. none_some z a) (parents_beside own m f None e bare)) s s'))
   where
     e : VolRecord
@@ -369,7 +373,7 @@ erases R own m staged f o u uid one tree at is limbo bare r id absent = subst (�
         (erase_lowers v (sees_object R own m staged uid v f o s here) (sees_limbo R own m staged uid v f o s here limbo).0 hidden (tells_true v.tombstone s.tombstone (u, r, id, absent)))
 
 makes_one : (R : Update → Type 0) (own : ℕ) (m : Maps) (consumed : ℕ) (staged : Uid → Option Sum) (kind : Kind) (bytes : List ℕ) (u : Update) (uid : Uid) → AreOne R → PlacesAreATree own m → NumbersAreFresh m consumed
-    → IsNew own m uid → IsShown R u → u.uid ≡ uid → (is_file u ≡ true → (made_object m false None kind bytes (Some uid) 0).sum ≡ u.hash) → Lowers (Sees R own m staged) (Sees R own (write own (cmd.Make uid kind bytes) m) staged) uid
+    → IsNew own m uid → IsShown R u → u.uid ≡ uid → (is_file u ≡ true → (made_object m false None kind bytes (Some uid) 0).sum ≡ u.hash) → Lowers (Sees R own m staged) (Sees R own (write own (cmd.Make uid kind bytes) m) staged) (same_uid uid)
 makes_one R own m consumed staged kind bytes u uid one tree fresh none is_shown id sum =
     lowers_where uid less (λ i v v' n s s'. view_stays R own m new staged i v v' (stays_so own m m.next_fid (Some y) e i (λ z a k. absent z a) (λ z a k. n (sym k ∙ ap (uid_of own) (sym (some_is y z a)))) (parents_beside own m m.next_fid (Some y) e apart)) s s')
   where
@@ -408,7 +412,7 @@ makes_one R own m consumed staged kind bytes u uid one tree fresh none is_shown 
         (λ i. let (q, k, id', is) = told v.file s.file i in
             sees_differs R own new staged uid v' m.next_fid y u one s' here r id (sum (ap is_file (one u q r k (id ∙ sym id')) ∙ is))))
 
-unstages : (R : Update → Type 0) (own : ℕ) (m : Maps) (staged : Uid → Option Sum) (uid : Uid) (sum : Sum) → staged uid ≡ Some sum → Lowers (Sees R own m staged) (Sees R own m (with_uid staged uid None)) uid
+unstages : (R : Update → Type 0) (own : ℕ) (m : Maps) (staged : Uid → Option Sum) (uid : Uid) (sum : Sum) → staged uid ≡ Some sum → Lowers (Sees R own m staged) (Sees R own m (with_uid staged uid None)) (same_uid uid)
 unstages R own m staged uid sum is = lowers_where uid less same
   where
     nothing : Option Sum
@@ -455,48 +459,85 @@ at_most_four w h d uid v s = due_small v
     tomb u = no_tombstone (IsRecordOf w d) d (w.at d).volume (w.at d).staged uid v u (records_one w d h) s
 
 -- what a changed member lowers is lowered in its world
-lowers_at : (w : World) (d : ℕ) (y : Member) (uid : Uid) → Lowers (SeesAt w d) (Sees (IsRecord w.all y.known) d y.volume y.staged) uid → Lowers (SeesAt w d) (SeesAt (with_member w d y) d) uid
-lowers_at w d y uid = subst (λ (x : Member). Lowers (SeesAt w d) (Sees (IsRecord w.all x.known) d x.volume x.staged) uid) (sym (at_same w.at d y))
+lowers_at : (w : World) (d : ℕ) (y : Member) (own : Uid → Bool) → Lowers (SeesAt w d) (Sees (IsRecord w.all y.known) d y.volume y.staged) own → Lowers (SeesAt w d) (SeesAt (with_member w d y) d) own
+lowers_at w d y own = subst (λ (x : Member). Lowers (SeesAt w d) (Sees (IsRecord w.all x.known) d x.volume x.staged) own) (sym (at_same w.at d y))
 
 -- each operation lowers what is due for its file
-op_lowers : (w : World) (d : ℕ) (op : VolCmd) (uid : Uid) (new : World) → Step w d (Install op) new → Lowers (SeesAt w d) (Sees (IsRecordOf w d) d (write d op (w.at d).volume) (w.at d).staged) uid → Lowers (SeesAt w d) (SeesAt new d) uid
-op_lowers w d op uid new (quiet, due, ok, is) low = subst (λ z. Lowers (SeesAt w d) (SeesAt z d) uid) (sym is) (lowers_at w d (operated d op (w.at d)) uid low)
+op_lowers : (w : World) (d : ℕ) (op : VolCmd) (own : Uid → Bool) (new : World) → Step w d (Install op) new → Lowers (SeesAt w d) (Sees (IsRecordOf w d) d (write d op (w.at d).volume) (w.at d).staged) own
+    → Lowers (SeesAt w d) (SeesAt new d) own
+op_lowers w d op own new (quiet, due, ok, is) low = subst (λ z. Lowers (SeesAt w d) (SeesAt z d) own) (sym is) (lowers_at w d (operated d op (w.at d)) own low)
+
+-- of equal records a view sees the same
+view_alike : (R S : Update → Type 0) (own : ℕ) (m : Maps) (staged : Uid → Option Sum) (uid : Uid) (v v' : View) → AreSame R S → Sees R own m staged uid v → Sees S own m staged uid v' → v' ≡ v
+view_alike R S own m staged uid v v' k s s' = λ i. record {
+  shown = tells_same v.shown v'.shown s.shown s'.shown (λ (u, h, id). (u, shown_same k u h, id)) (λ (u, h, id). (u, shown_same (same_back k) u h, id)) i;
+  tombstone = tells_same v.tombstone v'.tombstone s.tombstone s'.tombstone (λ (u, r, id, p). (u, k.to u r, id, p)) (λ (u, r, id, p). (u, k.back u r, id, p)) i;
+  file = tells_same v.file v'.file s.file s'.file (λ (u, r, id, p). (u, k.to u r, id, p)) (λ (u, r, id, p). (u, k.back u r, id, p)) i;
+  object = tells_same v.object v'.object s.object s'.object (λ h. h) (λ h. h) i;
+  placed = tells_same v.placed v'.placed s.placed s'.placed (λ h. h) (λ h. h) i;
+  exact = tells_same v.exact v'.exact s.exact s'.exact (λ (g, z, p, u, h, e, r, id, up, name). (g, z, p, u, h, e, k.to u r, id, up, name)) (λ (g, z, p, u, h, e, r, id, up, name). (g, z, p, u, h, e, k.back u r, id, up, name)) i;
+  differs = tells_same v.differs v'.differs s.differs s'.differs (λ (g, z, u, h, r, id, d). (g, z, u, h, k.to u r, id, d)) (λ (g, z, u, h, r, id, d). (g, z, u, h, k.back u r, id, d)) i;
+  staged = tells_same v.staged v'.staged s.staged s'.staged (λ h. h) (λ h. h) i;
+}
+
+-- a record of the installer's own makes no update
+passes : (w : World) (d moment : ℕ) (made : Option Update) → IsQuiet (w.at d).consumed (w.at d).volume → Records w d moment made → made ≡ None
+passes w d moment None quiet records = refl
+passes w d moment (Some u) quiet (r, held, at, is_held, is) =
+    absurd (true_false r.local (made_by d (w.at d).volume (base_fence (w.at d).phase (w.at d).kind) (w.at d).consumed moment r.local (is_deletion r) held ((w.at d).volume.at r.fid) u is).0 (quiet (w.at d).consumed r (omega arith) at))
+
+-- so views stay the same where it is consumed
+skips : (w : World) (d : ℕ) → Invariant w → Lowers (SeesAt w d) (SeesAt (consumes w d None) d) (λ uid. false)
+skips w d h = subst (λ (x : Member). Lowers (SeesAt w d) (Sees (IsRecord (w.all ++ []) x.known) d x.volume x.staged) (λ uid. false)) (sym (at_same w.at d (consumed_by d None (w.at d)))) (record {
+  no_more = λ uid v v' s s'. let e : due v' ≡ due v = ap due (view_alike (IsRecordOf w d) After d (w.at d).volume (w.at d).staged uid v v' alike s s') in omega (arith, e);
+  less = λ uid v v' t s s'. absurd (true_false false t refl);
+})
+  where
+    After : Update → Type 0
+    After = IsRecord (w.all ++ []) (consumed_by d None (w.at d)).known
+
+    stays : (v : Update) → Covered w.all (w.at d).known v → Covered (w.all ++ []) (consumed_by d None (w.at d)).known v
+    stays v c = (in_before v w.all [] c.0, plus_old (w.at d).known (record { db = d; version = (w.at d).consumed }) v.gvsn c.1)
+
+    alike : AreSame (IsRecordOf w d) After
+    alike = record { to = λ v r. best_same v stays (consume_none w d h.versions) r; back = λ v r. best_same v (consume_none w d h.versions) stays r }
 
 pub steps_lower : StepsLowerWhatIsDue
-steps_lower w h d (InstallStep.Park file) uid new (same, (op, (f, o, at, is, op_is), step)) = subst (Lowers (SeesAt w d) (SeesAt new d)) (sym same) (by (subst (λ c. Step w d (Install c) new) op_is step))
+steps_lower w h d (InstallStep.Park file) new (op, (f, o, at, is, op_is), step) = by (subst (λ c. Step w d (Install c) new) op_is step)
   where
-    by : Step w d (Install (cmd.Park f)) new → Lowers (SeesAt w d) (SeesAt new d) file
+    by : Step w d (Install (cmd.Park f)) new → Lowers (SeesAt w d) (SeesAt new d) (same_uid file)
     by (quiet, (q, p, there, place, out), ok, now) =
-        op_lowers w d (cmd.Park f) file new (quiet, (q, p, there, place, out), ok, now)
+        op_lowers w d (cmd.Park f) (same_uid file) new (quiet, (q, p, there, place, out), ok, now)
         (parks (IsRecordOf w d) d (w.at d).volume (w.at d).staged f q p file (records_one w d h) (h.members d).places there (ap (uid_of d) (some_is q o (sym there ∙ at)) ∙ is) place out)
-steps_lower w h d (InstallStep.Erase file) uid new (same, (op, (f, o, at, is, op_is), step)) = subst (Lowers (SeesAt w d) (SeesAt new d)) (sym same) (by (subst (λ c. Step w d (Install c) new) op_is step))
+steps_lower w h d (InstallStep.Erase file) new (op, (f, o, at, is, op_is), step) = by (subst (λ c. Step w d (Install c) new) op_is step)
   where
-    by : Step w d (Install (cmd.Erase f)) new → Lowers (SeesAt w d) (SeesAt new d) file
+    by : Step w d (Install (cmd.Erase f)) new → Lowers (SeesAt w d) (SeesAt new d) (same_uid file)
     by (quiet, (q, u, there, r, id, absent), (z, there', limbo, bare), now) =
         let is' : uid_of d q ≡ file = ap (uid_of d) (some_is q o (sym there ∙ at)) ∙ is in
-        op_lowers w d (cmd.Erase f) file new (quiet, (q, u, there, r, id, absent), (z, there', limbo, bare), now)
+        op_lowers w d (cmd.Erase f) (same_uid file) new (quiet, (q, u, there, r, id, absent), (z, there', limbo, bare), now)
         (erases (IsRecordOf w d) d (w.at d).volume (w.at d).staged f q u file (records_one w d h) (h.members d).places there is' (ap (λ k. k.place) (some_is q z (sym there ∙ there')) ∙ limbo) bare r (id ∙ is') absent)
-steps_lower w h d (InstallStep.Make file) uid new (same, (op, (r, bytes, is_record, id, op_is), step)) = subst (Lowers (SeesAt w d) (SeesAt new d)) (sym same) (by (subst (λ c. Step w d (Install c) new) op_is step))
+steps_lower w h d (InstallStep.Make file) new (op, (r, bytes, is_record, id, op_is), step) = by (subst (λ c. Step w d (Install c) new) op_is step)
   where
-    by : Step w d (Install (cmd.Make file (kind_of r) bytes)) new → Lowers (SeesAt w d) (SeesAt new d) file
+    by : Step w d (Install (cmd.Make file (kind_of r) bytes)) new → Lowers (SeesAt w d) (SeesAt new d) (same_uid file)
     by (quiet, (u, shown, is, kind, content), (root, none, bare), now) =
-        op_lowers w d (cmd.Make file (kind_of r) bytes) file new (quiet, (u, shown, is, kind, content), (root, none, bare), now)
+        op_lowers w d (cmd.Make file (kind_of r) bytes) (same_uid file) new (quiet, (u, shown, is, kind, content), (root, none, bare), now)
         (makes_one (IsRecordOf w d) d (w.at d).volume (w.at d).consumed (w.at d).staged (kind_of r) bytes u file (records_one w d h) (h.members d).places (h.members d).numbers none shown is (λ i. (content i).1))
-steps_lower w h d (InstallStep.Rewrite file) uid new (same, (op, (f, o, bytes, at, is, op_is), step)) = subst (Lowers (SeesAt w d) (SeesAt new d)) (sym same) (by (subst (λ c. Step w d (Install c) new) op_is step))
+steps_lower w h d (InstallStep.Rewrite file) new (op, (f, o, bytes, at, is, op_is), step) = by (subst (λ c. Step w d (Install c) new) op_is step)
   where
-    by : Step w d (Install (cmd.Rewrite f bytes)) new → Lowers (SeesAt w d) (SeesAt new d) file
+    by : Step w d (Install (cmd.Rewrite f bytes)) new → Lowers (SeesAt w d) (SeesAt new d) (same_uid file)
     by (quiet, (q, u, there, r, id, is_present, differs, content, sum), ok, now) =
         let is' : uid_of d q ≡ file = ap (uid_of d) (some_is q o (sym there ∙ at)) ∙ is in
-        op_lowers w d (cmd.Rewrite f bytes) file new (quiet, (q, u, there, r, id, is_present, differs, content, sum), ok, now)
+        op_lowers w d (cmd.Rewrite f bytes) (same_uid file) new (quiet, (q, u, there, r, id, is_present, differs, content, sum), ok, now)
         (rewrites (IsRecordOf w d) d (w.at d).volume (w.at d).staged f q bytes u file (records_one w d h) (h.members d).places there is' r (id ∙ is') is_present differs sum)
-steps_lower w h d (InstallStep.Place file) uid new (same, (op, (f, o, v, parent, at, is, r, id, up, op_is), step)) = subst (Lowers (SeesAt w d) (SeesAt new d)) (sym same) (by (subst (λ c. Step w d (Install c) new) op_is step))
+steps_lower w h d (InstallStep.Place file) new (op, (f, o, v, parent, at, is, r, id, up, op_is), step) = by (subst (λ c. Step w d (Install c) new) op_is step)
   where
-    by : Step w d (Install (cmd.Place f parent v.name)) new → Lowers (SeesAt w d) (SeesAt new d) file
+    by : Step w d (Install (cmd.Place f parent v.name)) new → Lowers (SeesAt w d) (SeesAt new d) (same_uid file)
     by (quiet, (q, u, there, shown, id', up', name), (z, there', limbo, dir, apart, free), now) =
         let is' : uid_of d q ≡ file = ap (uid_of d) (some_is q o (sym there ∙ at)) ∙ is in
-        op_lowers w d (cmd.Place f parent v.name) file new (quiet, (q, u, there, shown, id', up', name), (z, there', limbo, dir, apart, free), now)
+        op_lowers w d (cmd.Place f parent v.name) (same_uid file) new (quiet, (q, u, there, shown, id', up', name), (z, there', limbo, dir, apart, free), now)
         (places (IsRecordOf w d) d (w.at d).volume (w.at d).staged f q parent v.name u file (records_one w d h) (h.members d).places there is' (ap (λ k. k.place) (some_is q z (sym there ∙ there')) ∙ limbo)
             shown (id' ∙ is') up' name)
-steps_lower w h d (InstallStep.Unstage file) uid new (same, (f, o, at, is, staged, now)) = subst (Lowers (SeesAt w d) (SeesAt new d)) (sym same)
-    (subst (λ z. Lowers (SeesAt w d) (SeesAt z d) file) (sym now) (lowers_at w d (unstaged_at file (w.at d)) file (unstages (IsRecordOf w d) d (w.at d).volume (w.at d).staged file o.sum staged)))
-steps_lower w h d (InstallStep.Skip usn) uid new none = absurd none
+steps_lower w h d (InstallStep.Unstage file) new (f, o, at, is, staged, now) =
+    subst (λ z. Lowers (SeesAt w d) (SeesAt z d) (same_uid file)) (sym now) (lowers_at w d (unstaged_at file (w.at d)) (same_uid file) (unstages (IsRecordOf w d) d (w.at d).volume (w.at d).staged file o.sum staged))
+steps_lower w h d (InstallStep.Skip usn) new (moment, is, quiet, (early, made, records, now)) =
+    subst (λ z. Lowers (SeesAt w d) (SeesAt z d) (λ uid. false)) (sym (now ∙ ap (consumes w d) (passes w d moment made quiet records))) (skips w d h)

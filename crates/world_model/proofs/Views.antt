@@ -2,7 +2,6 @@
 use Rattle.std.proofs.Common.{◌≡◌, ◌≢◌, ◌⊎◌, ◌<◌, ◌≤◌, ◌+◌, ℕ, zero, suc, Bool, true, false, cond, List, [], ◌∷◌, refl, sym, ap, ◌∙◌, subst, arith, inl, inr, Option, Some, None}
 use Rattle.std.specs.Prelude.{count_by}
 use Rattle.std.proofs.lemmas.List.Sums.{sum_by-cons}
-use Rattle.frs_base.specs.Versions.{same_uid}
 use Rattle.frs_base.specs.declared.sum.Sum.{Sum}
 use Rattle.frs_base.specs.declared.version.Uid.{Uid}
 use Rattle.win_order.specs.declared.update.Update.{Update}
@@ -11,16 +10,16 @@ use Rattle.vol_state.specs.State.{uid_of}
 use Rattle.vol_state.specs.Maps.{Maps}
 use Rattle.vol_state.specs.Tables.{IsAt, IsNew}
 use Rattle.record_db.specs.Records.{Has}
-use Rattle.record_db.proofs.Keys.{same_uid_is, uid_cases}
+use Rattle.record_db.proofs.Keys.{uid_cases}
 use Rattle.name_rules.specs.Recorded.{parent_uid}
 use Rattle.name_rules.specs.Tree.{IsShown, is_file}
 use Rattle.name_rules.specs.Next.{Step as InstallStep}
 use Rattle.name_rules.proofs.Shown.{shown_record}
 use Rattle.world_model.specs.World.{World, IsRecordOf}
-use Rattle.world_model.specs.Events.{Install, Unstage}
+use Rattle.world_model.specs.Events.{Consume, Install, Unstage}
 use Rattle.world_model.specs.Invariant.{Invariant, NumbersAreFresh, PlacesAreATree}
 use Rattle.world_model.specs.Due.{IsObject, Lowers, Sees, Tells, View, due}
-use Rattle.world_model.specs.Laws.{AreDone, AtMostFourAreDone, IsDone, SeesAt, ViewsAreThere}
+use Rattle.world_model.specs.Laws.{AreDone, AtMostFourAreDone, IsDone, SeesAt, ViewsAreThere, is_for}
 use Rattle.world_model.proofs.Facts.{none_some, some_is, true_false}
 use Rattle.world_model.proofs.Deciding.{Decided, IsListed, has_decided, list_decided, records_listed, shown_decided, true_decided}
 use Rattle.world_model.proofs.Due.{IsSite, at_most_four, site, steps_lower}
@@ -158,37 +157,34 @@ views_there w h d uid = view_of (IsRecordOf w d) (records_listed w.all (w.at d).
 -- ---- how many steps are done
 
 -- a step that is done is an event, which keeps the invariant
-kept : (w : World) (d : ℕ) (step : InstallStep) (uid : Uid) (new : World) → Invariant w → IsDone w d step uid new → Invariant new
-kept w d (InstallStep.Park file) uid new h (same, (op, by, step)) = step_keeps w d (Install op) new h step
-kept w d (InstallStep.Erase file) uid new h (same, (op, by, step)) = step_keeps w d (Install op) new h step
-kept w d (InstallStep.Make file) uid new h (same, (op, by, step)) = step_keeps w d (Install op) new h step
-kept w d (InstallStep.Rewrite file) uid new h (same, (op, by, step)) = step_keeps w d (Install op) new h step
-kept w d (InstallStep.Place file) uid new h (same, (op, by, step)) = step_keeps w d (Install op) new h step
-kept w d (InstallStep.Unstage file) uid new h (same, step) = step_keeps w d (Unstage file) new h step
-kept w d (InstallStep.Skip usn) uid new h none = absurd none
+kept : (w : World) (d : ℕ) (step : InstallStep) (new : World) → Invariant w → IsDone w d step new → Invariant new
+kept w d (InstallStep.Park file) new h (op, by, step) = step_keeps w d (Install op) new h step
+kept w d (InstallStep.Erase file) new h (op, by, step) = step_keeps w d (Install op) new h step
+kept w d (InstallStep.Make file) new h (op, by, step) = step_keeps w d (Install op) new h step
+kept w d (InstallStep.Rewrite file) new h (op, by, step) = step_keeps w d (Install op) new h step
+kept w d (InstallStep.Place file) new h (op, by, step) = step_keeps w d (Install op) new h step
+kept w d (InstallStep.Unstage file) new h step = step_keeps w d (Unstage file) new h step
+kept w d (InstallStep.Skip usn) new h (moment, is, quiet, step) = step_keeps w d (Consume moment) new h step
 
 -- no more are done for a file than are due
-few_done : (w : World) → Invariant w → (d : ℕ) (uids : List Uid) (new : World) → AreDone w d uids new → (uid : Uid) (v : View) → SeesAt w d uid v → count_by (λ other. same_uid other uid) uids ≤ due v
+few_done : (w : World) → Invariant w → (d : ℕ) (steps : List InstallStep) (new : World) → AreDone w d steps new → (uid : Uid) (v : View) → SeesAt w d uid v → count_by (λ step. is_for step uid) steps ≤ due v
 few_done w h d [] new done uid v s = omega arith
-few_done w h d (u ∷ uids) new (step, mid, done, more) uid v s =
-    let (v', s') = views_there mid (kept w d step u mid h done) d uid in
-    let rest = few_done mid (kept w d step u mid h done) d uids new more uid v' s' in
-    let counted : count_by (λ other. same_uid other uid) (u ∷ uids) ≡ cond (same_uid u uid) 1 0 + count_by (λ other. same_uid other uid) uids = sum_by-cons (λ other. cond (same_uid other uid) 1 0) u uids in
-    subst (λ n. n ≤ due v) (sym counted) (by (same_uid u uid) refl v' s' rest)
+few_done w h d (step ∷ steps) new (mid, done, more) uid v s =
+    let (v', s') = views_there mid (kept w d step mid h done) d uid in
+    let rest = few_done mid (kept w d step mid h done) d steps new more uid v' s' in
+    let counted : count_by (λ other. is_for other uid) (step ∷ steps) ≡ cond (is_for step uid) 1 0 + count_by (λ other. is_for other uid) steps = sum_by-cons (λ other. cond (is_for other uid) 1 0) step steps in
+    subst (λ n. n ≤ due v) (sym counted) (by (is_for step uid) refl v' s' rest)
   where
-    low : Lowers (SeesAt w d) (SeesAt mid d) u
-    low = steps_lower w h d step u mid done
+    low : Lowers (SeesAt w d) (SeesAt mid d) (is_for step)
+    low = steps_lower w h d step mid done
 
-    by : (b : Bool) → same_uid u uid ≡ b → (v' : View) → SeesAt mid d uid v' → count_by (λ other. same_uid other uid) uids ≤ due v' → cond b 1 0 + count_by (λ other. same_uid other uid) uids ≤ due v
-    by true e v' s' rest =
-        let is : u ≡ uid = same_uid_is u uid e in
-        let less : due v' < due v = low.less v v' (subst (λ i. SeesAt w d i v) (sym is) s) (subst (λ i. SeesAt mid d i v') (sym is) s') in
-        omega (arith, rest, less)
-    by false e v' s' rest = let no_more : due v' ≤ due v = low.others uid v v' s s' in omega (arith, rest, no_more)
+    by : (b : Bool) → is_for step uid ≡ b → (v' : View) → SeesAt mid d uid v' → count_by (λ other. is_for other uid) steps ≤ due v' → cond b 1 0 + count_by (λ other. is_for other uid) steps ≤ due v
+    by true e v' s' rest = let less : due v' < due v = low.less uid v v' e s s' in omega (arith, rest, less)
+    by false e v' s' rest = let no_more : due v' ≤ due v = low.no_more uid v v' s s' in omega (arith, rest, no_more)
 
 pub at_most_four_done : AtMostFourAreDone
-at_most_four_done w h d uids new done uid =
+at_most_four_done w h d steps new done uid =
     let (v, s) = views_there w h d uid in
-    let few = few_done w h d uids new done uid v s in
+    let few = few_done w h d steps new done uid v s in
     let four = at_most_four w h d uid v s in
     omega (arith, few, four)

@@ -1,5 +1,5 @@
 -- What holds of every run.
-use Rattle.std.specs.Prelude.{◌≡◌, ◌≢◌, ◌↔◌, ◌<◌, ◌≤◌, ◌-◌, ◌+◌, ℕ, true, false, All, List, [], ◌∷◌, Option, Some, count_by, length, sum_by}
+use Rattle.std.specs.Prelude.{◌≡◌, ◌≢◌, ◌↔◌, ◌<◌, ◌≤◌, ◌-◌, ◌+◌, ℕ, Bool, true, false, All, List, [], ◌∷◌, Option, Some, count_by, length, sum_by}
 use Rattle.frs_base.specs.Options.{In}
 use Rattle.frs_base.specs.Versions.{same_uid}
 use Rattle.frs_base.specs.declared.kind.Kind.{Kind}
@@ -17,7 +17,7 @@ use Rattle.record_db.specs.Records.{Versions, Covered, IsHeld, IsHeldOrBeaten, I
 use Rattle.name_rules.specs.Tree.{IsRow, IsVolumeRow, kind_of}
 use Rattle.name_rules.specs.Next.{IsCandidate, IsDrained, IsDue, IsPending, IsQuiet, IsStepOf, IsTurn, Step as InstallStep, content_sum}
 use Rattle.world_model.specs.World.{Member, World, SentVector, IsConsumed, IsRecordOf, fresh_member, fresh_world}
-use Rattle.world_model.specs.Events.{Event, Step, Adopt, Install, Unstage, IsAllHeld}
+use Rattle.world_model.specs.Events.{Event, Step, Adopt, Consume, Install, Unstage, IsAllHeld}
 use Rattle.world_model.specs.Runs.{CoversAlike, Grows, Happening, Run}
 use Rattle.world_model.specs.Invariant.{Invariant, SentIsKnown, VersionsAreMade}
 use Rattle.world_model.specs.Folder.{FolderIsSound, FoldersStaySound}
@@ -181,25 +181,35 @@ AtMostFourAreDue = (w : World) → Invariant w → (d : ℕ) (uid : Uid) (v : Vi
 abbrev pub IsOperated : World → ℕ → InstallStep → World → Type 0
 IsOperated w d step new = (op : VolCmd) × IsStepOf (IsRecordOf w d) d (w.at d).volume step op × Step w d (Install op) new
 
--- a step is done for its file; the last kind is for none
-abbrev pub IsDone : World → ℕ → InstallStep → Uid → World → Type 0
-IsDone w d (InstallStep.Park file) uid new = (uid ≡ file) × IsOperated w d (InstallStep.Park file) new
-IsDone w d (InstallStep.Erase file) uid new = (uid ≡ file) × IsOperated w d (InstallStep.Erase file) new
-IsDone w d (InstallStep.Make file) uid new = (uid ≡ file) × IsOperated w d (InstallStep.Make file) new
-IsDone w d (InstallStep.Rewrite file) uid new = (uid ≡ file) × IsOperated w d (InstallStep.Rewrite file) new
-IsDone w d (InstallStep.Place file) uid new = (uid ≡ file) × IsOperated w d (InstallStep.Place file) new
-IsDone w d (InstallStep.Unstage file) uid new = (uid ≡ file) × Step w d (Unstage file) new
-IsDone w d (InstallStep.Skip usn) uid new = ⊥
+-- a step is done; the last two kinds leave the volume alone, and the last passes over a record of the installer's own
+abbrev pub IsDone : World → ℕ → InstallStep → World → Type 0
+IsDone w d (InstallStep.Park file) new = IsOperated w d (InstallStep.Park file) new
+IsDone w d (InstallStep.Erase file) new = IsOperated w d (InstallStep.Erase file) new
+IsDone w d (InstallStep.Make file) new = IsOperated w d (InstallStep.Make file) new
+IsDone w d (InstallStep.Rewrite file) new = IsOperated w d (InstallStep.Rewrite file) new
+IsDone w d (InstallStep.Place file) new = IsOperated w d (InstallStep.Place file) new
+IsDone w d (InstallStep.Unstage file) new = Step w d (Unstage file) new
+IsDone w d (InstallStep.Skip usn) new = (moment : ℕ) × (usn ≡ (w.at d).consumed) × IsQuiet (w.at d).consumed (w.at d).volume × Step w d (Consume moment) new
+
+-- the step is for this file; the last kind is for none
+abbrev pub is_for : InstallStep → Uid → Bool
+is_for (InstallStep.Park file) uid = same_uid file uid
+is_for (InstallStep.Erase file) uid = same_uid file uid
+is_for (InstallStep.Make file) uid = same_uid file uid
+is_for (InstallStep.Rewrite file) uid = same_uid file uid
+is_for (InstallStep.Place file) uid = same_uid file uid
+is_for (InstallStep.Unstage file) uid = same_uid file uid
+is_for (InstallStep.Skip usn) uid = false
 
 -- each step that is done lowers what is due for its file, and raises it for none
 abbrev pub StepsLowerWhatIsDue : Type 0
-StepsLowerWhatIsDue = (w : World) → Invariant w → (d : ℕ) (step : InstallStep) (uid : Uid) (new : World) → IsDone w d step uid new → Lowers (SeesAt w d) (SeesAt new d) uid
+StepsLowerWhatIsDue = (w : World) → Invariant w → (d : ℕ) (step : InstallStep) (new : World) → IsDone w d step new → Lowers (SeesAt w d) (SeesAt new d) (is_for step)
 
--- steps are done at a member, one after the other, for these files
-abbrev pub AreDone : World → ℕ → List Uid → World → Type 0
+-- steps are done at a member, one after the other
+abbrev pub AreDone : World → ℕ → List InstallStep → World → Type 0
 AreDone w d [] new = new ≡ w
-AreDone w d (uid ∷ uids) new = (step : InstallStep) × (mid : World) × IsDone w d step uid mid × AreDone mid d uids new
+AreDone w d (step ∷ steps) new = (mid : World) × IsDone w d step mid × AreDone mid d steps new
 
 -- so at most four are done for a file, where nothing else happens between them
 abbrev pub AtMostFourAreDone : Type 0
-AtMostFourAreDone = (w : World) → Invariant w → (d : ℕ) (uids : List Uid) (new : World) → AreDone w d uids new → (uid : Uid) → count_by (λ other. same_uid other uid) uids ≤ 4
+AtMostFourAreDone = (w : World) → Invariant w → (d : ℕ) (steps : List InstallStep) (new : World) → AreDone w d steps new → (uid : Uid) → count_by (λ step. is_for step uid) steps ≤ 4
