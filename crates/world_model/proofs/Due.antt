@@ -1,7 +1,6 @@
 -- How much is due for a file, and what each step of the installer does to it.
 use Rattle.std.proofs.Common.{◌≡◌, ◌≢◌, ◌<◌, ◌≤◌, ◌&&◌, ℕ, Bool, true, false, cond, eqb, List, [], ◌++◌, refl, sym, ap, ◌∙◌, subst, arith, inl, inr, Option, Some, None}
 use Rattle.std.proofs.lemmas.Bool.{cases_eq}
-use Rattle.frs_base.specs.Options.{In}
 use Rattle.frs_base.specs.Versions.{same_uid}
 use Rattle.frs_base.specs.declared.kind.Kind.{Kind}
 use Rattle.frs_base.specs.declared.sum.Sum.{Sum}
@@ -15,14 +14,14 @@ use Rattle.vol_state.specs.State.{uid_of}
 use Rattle.vol_state.specs.Effects.{at_place, stamp, uid_found, with_bytes}
 use Rattle.vol_state.specs.Conditions.{root_uid}
 use Rattle.vol_state.specs.Maps.{Maps, write}
-use Rattle.vol_state.specs.Tables.{IsAt, IsDirectory, IsEmpty, IsNew, IsReplica}
+use Rattle.vol_state.specs.Tables.{IsAt, IsDirectory, IsEmpty, IsNew}
 use Rattle.record_db.specs.Records.{Covered, IsRecord}
 use Rattle.record_db.proofs.Best.{best_one, best_same}
 use Rattle.record_db.proofs.Sets.{in_before, plus_old}
 use Rattle.record_db.proofs.Keys.{same_uid_is, uid_cases}
 use Rattle.name_rules.specs.Recorded.{base_fence, is_deletion, parent_uid}
 use Rattle.name_rules.specs.Tree.{IsShown, is_file, kind_of}
-use Rattle.name_rules.specs.Next.{IsDue, IsInPlace, IsQuiet, Step as InstallStep}
+use Rattle.name_rules.specs.Next.{IsInPlace, IsQuiet, Step as InstallStep}
 use Rattle.name_rules.proofs.Cases.{made_by}
 use Rattle.name_rules.proofs.Shown.{AreSame, same_back, shown_record, shown_same}
 use Rattle.world_model.specs.World.{Member, World, IsRecordOf, with_member, with_uid}
@@ -224,9 +223,9 @@ changed_lowers : (R : Update → Type 0) (own : ℕ) (m : Maps) (staged : Uid �
 changed_lowers R own m staged f o y e uid tree at is kept less = lowers_where uid
     (λ v v' s s'. less v v' s s' old (site_written own m f y e uid (λ g z n a k. n (tree.uids g f z o a at (k ∙ sym is))) (kept ∙ is)))
     (λ i v v' n s s'. view_stays R own m (wrote m f (Some y) e) staged i v v'
-        (stays_so own m f (Some y) e i (λ z a k. n (sym k ∙ (ap (uid_of own) (some_is z o (sym a ∙ at)) ∙ is))) (λ z a k. n (sym k ∙ (ap (uid_of own) (sym (some_is y z a)) ∙ (kept ∙ is))))
-            (λ g z p a place. parents_changed own m f o y e at kept p.0))
-        s s')
+    (stays_so own m f (Some y) e i (λ z a k. n (sym k ∙ (ap (uid_of own) (some_is z o (sym a ∙ at)) ∙ is))) (λ z a k. n (sym k ∙ (ap (uid_of own) (sym (some_is y z a)) ∙ (kept ∙ is))))
+    (λ g z p a place. parents_changed own m f o y e at kept p.0))
+    s s')
   where
     old : IsSite own m uid f o
     old = site own m f o uid tree at is
@@ -288,7 +287,7 @@ parks R own m staged f o p uid one tree at is place out = subst (λ n. Lowers (S
         let object : v'.object ≡ v.object = sees_object R own new staged uid v' f y s' now ∙ sym (sees_object R own m staged uid v f o s here) in
         let differs = differs_kept R own m new staged uid v v' f o y s s' here now refl in
         let is_now : record v { placed = false; exact = false } ≡ v' =
-            λ i. record { shown = sym shown i; tombstone = sym tombstone i; file = sym file i; object = sym object i; placed = sym placed i; exact = sym exact i; differs = sym differs i; staged = sym content i } in
+        λ i. record { shown = sym shown i; tombstone = sym tombstone i; file = sym file i; object = sym object i; placed = sym placed i; exact = sym exact i; differs = sym differs i; staged = sym content i } in
         subst (λ z. due z < due v) is_now
         (park_lowers v (sees_object R own m staged uid v f o s here) (sees_placed R own m staged uid v f o p s here place) (apart v s here v.shown v.exact refl refl))
 
@@ -313,7 +312,7 @@ rewrites R own m staged f o bytes u uid one tree at is r id is_present differ su
         let object : v'.object ≡ v.object = sees_object R own new staged uid v' f y s' now ∙ sym (sees_object R own m staged uid v f o s here) in
         let differs = sees_differs R own new staged uid v' f y u one s' now r id sum in
         let is_now : record v { differs = false } ≡ v' =
-            λ i. record { shown = sym shown i; tombstone = sym tombstone i; file = sym file i; object = sym object i; placed = sym placed i; exact = sym exact i; differs = sym differs i; staged = sym content i } in
+        λ i. record { shown = sym shown i; tombstone = sym tombstone i; file = sym file i; object = sym object i; placed = sym placed i; exact = sym exact i; differs = sym differs i; staged = sym content i } in
         subst (λ z. due z < due v) is_now
         (rewrite_lowers v (sees_object R own m staged uid v f o s here) (tells_true v.file s.file (u, r, id, is_present)) (tells_true v.differs s.differs (f, o, u, (at, is), r, id, differ)))
 
@@ -340,7 +339,7 @@ places R own m staged f o parent name u uid one tree at is limbo is_shown id up 
         let object : v'.object ≡ v.object = sees_object R own new staged uid v' f y s' now ∙ sym (sees_object R own m staged uid v f o s here) in
         let differs = differs_kept R own m new staged uid v v' f o y s s' here now refl in
         let is_now : record v { placed = true; exact = true } ≡ v' =
-            λ i. record { shown = sym shown i; tombstone = sym tombstone i; file = sym file i; object = sym object i; placed = sym placed i; exact = sym exact i; differs = sym differs i; staged = sym content i } in
+        λ i. record { shown = sym shown i; tombstone = sym tombstone i; file = sym file i; object = sym object i; placed = sym placed i; exact = sym exact i; differs = sym differs i; staged = sym content i } in
         subst (λ z. due z < due v) is_now
         (place_lowers v (sees_object R own m staged uid v f o s here) (sees_limbo R own m staged uid v f o s here limbo).0 (tells_true v.shown s.shown (u, is_shown, id)))
 
@@ -366,9 +365,9 @@ erases R own m staged f o u uid one tree at is limbo bare r id absent = subst (�
         let (shown, tombstone, file, content) = sees_alike R own m new staged uid v v' s s' in
         let (object, placed, exact, differs) = sees_none R own new staged uid v' s' gone in
         let is_now : record v { object = false; placed = false; exact = false; differs = false } ≡ v' =
-            λ i. record { shown = sym shown i; tombstone = sym tombstone i; file = sym file i; object = sym object i; placed = sym placed i; exact = sym exact i; differs = sym differs i; staged = sym content i } in
+        λ i. record { shown = sym shown i; tombstone = sym tombstone i; file = sym file i; object = sym object i; placed = sym placed i; exact = sym exact i; differs = sym differs i; staged = sym content i } in
         let hidden : v.shown ≡ false = tells_false v.shown s.shown
-            (λ (q, h, id'). true_false q.present (shown_name R q h).present (ap (λ z. z.present) (one q u (shown_record R q h) r (id' ∙ sym id)) ∙ absent)) in
+        (λ (q, h, id'). true_false q.present (shown_name R q h).present (ap (λ z. z.present) (one q u (shown_record R q h) r (id' ∙ sym id)) ∙ absent)) in
         subst (λ z. due z < due v) is_now
         (erase_lowers v (sees_object R own m staged uid v f o s here) (sees_limbo R own m staged uid v f o s here limbo).0 hidden (tells_true v.tombstone s.tombstone (u, r, id, absent)))
 
@@ -406,11 +405,11 @@ makes_one R own m consumed staged kind bytes u uid one tree fresh none is_shown 
         let object = sees_object R own new staged uid v' m.next_fid y s' here in
         let r = shown_record R u is_shown in
         let is_now : record v { object = true; placed = false; exact = false; differs = v'.differs } ≡ v' =
-            λ i. record { shown = sym shown i; tombstone = sym tombstone i; file = sym file i; object = sym object i; placed = sym placed i; exact = sym exact i; differs = v'.differs; staged = sym content i } in
+        λ i. record { shown = sym shown i; tombstone = sym tombstone i; file = sym file i; object = sym object i; placed = sym placed i; exact = sym exact i; differs = v'.differs; staged = sym content i } in
         subst (λ z. due z < due v) is_now
         (make_lowers v v'.differs (tells_true v.shown s.shown (u, is_shown, id)) (sees_none R own m staged uid v s none).0 (no_tombstone R own m staged uid v u one s r id (shown_name R u is_shown).present)
         (λ i. let (q, k, id', is) = told v.file s.file i in
-            sees_differs R own new staged uid v' m.next_fid y u one s' here r id (sum (ap is_file (one u q r k (id ∙ sym id')) ∙ is))))
+        sees_differs R own new staged uid v' m.next_fid y u one s' here r id (sum (ap is_file (one u q r k (id ∙ sym id')) ∙ is))))
 
 unstages : (R : Update → Type 0) (own : ℕ) (m : Maps) (staged : Uid → Option Sum) (uid : Uid) (sum : Sum) → staged uid ≡ Some sum → Lowers (Sees R own m staged) (Sees R own m (with_uid staged uid None)) (same_uid uid)
 unstages R own m staged uid sum is = lowers_where uid less same
@@ -536,7 +535,7 @@ steps_lower w h d (InstallStep.Place file) new (op, (f, o, v, parent, at, is, r,
         let is' : uid_of d q ≡ file = ap (uid_of d) (some_is q o (sym there ∙ at)) ∙ is in
         op_lowers w d (cmd.Place f parent v.name) (same_uid file) new (quiet, (q, u, there, shown, id', up', name), (z, there', limbo, dir, apart, free), now)
         (places (IsRecordOf w d) d (w.at d).volume (w.at d).staged f q parent v.name u file (records_one w d h) (h.members d).places there is' (ap (λ k. k.place) (some_is q z (sym there ∙ there')) ∙ limbo)
-            shown (id' ∙ is') up' name)
+        shown (id' ∙ is') up' name)
 steps_lower w h d (InstallStep.Unstage file) new (f, o, at, is, staged, now) =
     subst (λ z. Lowers (SeesAt w d) (SeesAt z d) (same_uid file)) (sym now) (lowers_at w d (unstaged_at file (w.at d)) (same_uid file) (unstages (IsRecordOf w d) d (w.at d).volume (w.at d).staged file o.sum staged))
 steps_lower w h d (InstallStep.Skip usn) new (moment, is, quiet, (early, made, records, now)) =

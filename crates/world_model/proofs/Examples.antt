@@ -1,5 +1,5 @@
 -- The small worlds, computed.
-use Rattle.std.proofs.Common.{◌≡◌, ◌≢◌, ◌⊎◌, ◌+◌, ℕ, Bool, true, false, List, [], ◌∷◌, drop, refl, sym, ap, ◌∙◌, subst, arith, inl, inr, Option, Some, None}
+use Rattle.std.proofs.Common.{◌≡◌, ◌⊎◌, true, false, [], ◌∷◌, drop, refl, sym, ap, ◌∙◌, subst, arith, inl, inr, Some, None}
 use Rattle.frs_base.specs.Options.{In}
 use Rattle.win_order.specs.Order.{Beats, key_lt, key_of}
 use Rattle.win_order.specs.declared.update.Update.{Update}

@@ -3,26 +3,26 @@ use Rattle.std.proofs.Common.{◌≡◌, ◌≢◌, ◌≤◌, ◌⊎◌, ℕ, z
 use Rattle.frs_base.specs.Names.{matches}
 use Rattle.frs_base.specs.Options.{In}
 use Rattle.frs_base.specs.declared.kind.Kind.TheVariants.{Directory, File}
+use Rattle.frs_base.specs.declared.version.Uid.{Uid}
 use Rattle.win_order.specs.Order.{is_directory, key_of}
 use Rattle.win_order.specs.declared.update.Update.{Update}
 use Rattle.vol_state.specs.declared.object.Object.{Object}
-use Rattle.vol_state.specs.declared.command.VolCmd.{VolCmd}
 use Rattle.vol_state.specs.declared.command.VolCmd.TheVariants as cmd
 use Rattle.vol_state.specs.Places.{is_directory as is_directory_kind}
 use Rattle.vol_state.specs.State.{uid_of}
 use Rattle.vol_state.specs.Conditions.{root_uid}
-use Rattle.vol_state.specs.Tables.{BeneathBy, IsAt, IsBeneath, IsDirectory, IsEmpty, IsFree, IsReplica}
+use Rattle.vol_state.specs.Tables.{BeneathBy, IsAt, IsBeneath, IsDirectory, IsEmpty, IsFree}
 use Rattle.record_db.specs.Records.{IsRecord}
-use Rattle.record_db.proofs.Best.{best_one}
+use Rattle.record_db.proofs.Best.{best_one, held_is}
 use Rattle.record_db.proofs.Keys.{key_same}
 use Rattle.name_rules.specs.Recorded.{parent_uid}
 use Rattle.name_rules.specs.Tree.{HasName, IsShown, ShownBy, is_file, kind_of}
-use Rattle.name_rules.specs.Next.{IsDue, IsQuiet, IsStepOf, NothingToMake, NothingToPark, Step as InstallStep, content_sum}
+use Rattle.name_rules.specs.Next.{IsQuiet, NothingToMake, NothingToPark, Step as InstallStep, content_sum}
 use Rattle.name_rules.proofs.Parents.{kind_is, parent_is, parent_root}
 use Rattle.name_rules.proofs.Shown.{shown_record}
 use Rattle.world_model.specs.World.{Member, World, IsRecordOf}
-use Rattle.world_model.specs.Invariant.{HasSum, Invariant, IsSound}
-use Rattle.world_model.specs.Laws.{CanBeDone, HaveContents, NextStepsCanBeDone}
+use Rattle.world_model.specs.Invariant.{HasSum, IsSound}
+use Rattle.world_model.specs.Laws.{HaveContents, IsDone, NextStepsCanBeDone}
 use Rattle.world_model.proofs.Facts.{none_some, some_is, true_false}
 use Rattle.world_model.proofs.Installed.{no_pending}
 use Rattle.world_model.proofs.Names.{matches_is, matches_sym, matches_trans}
@@ -157,7 +157,7 @@ free all own x f g o u h at shown uid parent c q p at' place here match =
     let up : v.parent ≡ u.parent = parent' ∙ (ap (parent_uid own x.volume) here ∙ sym parent) in
     let alike : matches v.name u.name ≡ true = matches_trans v.name p.1 u.name (matches_is v.name p.1 name) match in
     let same : u ≡ v = h.one u v a.among.among.0 b.among.among.0
-        (key_same (key_of u) (key_of v) (a.greatest v b.among b.present up alike) (b.greatest u a.among a.present (sym up) (matches_sym v.name u.name alike))) in
+    (key_same (key_of u) (key_of v) (a.greatest v b.among b.present up alike) (b.greatest u a.among a.present (sym up) (matches_sym v.name u.name alike))) in
     h.sound.places.uids c f q o at' at (sym id ∙ (ap (λ z. z.uid) (sym same) ∙ uid))
 
 -- the contents of a present file that no object has are staged
@@ -203,60 +203,89 @@ has_bytes x u contents staged = by (is_file u) refl
         (bytes, λ k. absurd (plain u.present (is_directory u) i (sym (kind_is u) ∙ k)), λ k. (staged i ∙ ap Some (sym is), is))
 
 pub next_steps : NextStepsCanBeDone
-next_steps w h d contents quiet (InstallStep.Park file) turn (f, o, p, at, uid, place, out) volume =
-    (cmd.Park f, _, (f, o, at, uid, refl), (quiet, (o, p, at, place, out), (o, at, λ e. none_some p (sym e ∙ place)), refl))
-next_steps w h d contents quiet (InstallStep.Erase file) park (f, o, u, at, uid, r, id, absent) volume =
-    (cmd.Erase f, _, (f, o, at, uid, refl), (
+next_steps w h d contents quiet (InstallStep.Park file) turn (f, o, p, at, uid, place, out) =
+    (_, (cmd.Park f, (f, o, at, uid, refl), (quiet, (o, p, at, place, out), (o, at, λ e. none_some p (sym e ∙ place)), refl)))
+next_steps w h d contents quiet (InstallStep.Erase file) park (f, o, u, at, uid, r, id, absent) = (
+  _,
+  (
+    cmd.Erase f,
+    (f, o, at, uid, refl),
+    (
       quiet,
       (o, u, at, r, id ∙ sym uid, absent),
       (o, at, in_limbo w.all d (w.at d) parked f o u at r (id ∙ sym uid) absent o.place refl, bare w.all d (w.at d) parked f o u at r (id ∙ sym uid) absent),
       refl,
-    ))
+    ),
+  ),
+)
   where
     parked : IsParked w.all d (w.at d)
     parked = record { one = h.versions.one_each; sound = h.members d; no_root = h.files.no_root; park = park }
-next_steps w h d contents quiet (InstallStep.Make file) turn (u, shown, id, none) volume =
+next_steps w h d contents quiet (InstallStep.Make file) turn (u, shown, id, none) =
     let r = shown_record (IsRecordOf w d) u shown in
-    let (bytes, bare, staged) = has_bytes (w.at d) u contents (λ i. staged_for w.all d (w.at d) u (h.members d) quiet r i (λ c. none c.0 c.1 c.2 (c.3 ∙ id))) in
-    (cmd.Make file (kind_of u) bytes, _, (u, bytes, r, id, refl), (
-      quiet,
-      (u, shown, id, refl, λ i. (ap (w.at d).staged (sym id) ∙ (staged i).0, (staged i).1)),
-      (λ e. h.files.no_root u r.among.0 (id ∙ e), none, bare),
-      refl,
-    ))
-next_steps w h d contents quiet (InstallStep.Rewrite file) turn (f, o, u, at, uid, r, id, is, differs) volume =
+    let (bytes, bare, staged) = has_bytes (w.at d) u contents (λ i. staged_for w.all d (w.at d) u (h.members d) quiet r i (λ c. none c.0 c.1 c.2 (c.3 ∙ id))) in (
+      _,
+      (
+        cmd.Make file (kind_of u) bytes,
+        (u, bytes, r, id, refl),
+        (
+          quiet,
+          (u, shown, id, refl, λ i. (ap (w.at d).staged (sym id) ∙ (staged i).0, (staged i).1)),
+          (λ e. h.files.no_root u r.among.0 (id ∙ e), none, bare),
+          refl,
+        ),
+      ),
+    )
+next_steps w h d contents quiet (InstallStep.Rewrite file) turn (f, o, u, at, uid, r, id, is, differs) =
     let staged : (w.at d).staged u.uid ≡ Some u.hash = staged_for w.all d (w.at d) u (h.members d) quiet r is (λ c. differs (ap (λ z. z.sum) (same c) ∙ c.4)) in
-    let (bytes, sum) = contents u.uid u.hash staged in
-    (cmd.Rewrite f bytes, _, (f, o, bytes, at, uid, refl), (
-      quiet,
-      (o, u, at, r, id ∙ sym uid, is, differs, staged ∙ ap Some (sym sum), sum),
-      (o, at, ap is_directory_kind (sym ((h.members d).objects.kinds f o u at r.among.0 (id ∙ sym uid))) ∙ (kind_is u ∙ file_split u is)),
-      refl,
-    ))
+    let (bytes, sum) = contents u.uid u.hash staged in (
+      _,
+      (
+        cmd.Rewrite f bytes,
+        (f, o, bytes, at, uid, refl),
+        (
+          quiet,
+          (o, u, at, r, id ∙ sym uid, is, differs, staged ∙ ap Some (sym sum), sum),
+          (o, at, ap is_directory_kind (sym ((h.members d).objects.kinds f o u at r.among.0 (id ∙ sym uid))) ∙ (kind_is u ∙ file_split u is)),
+          refl,
+        ),
+      ),
+    )
   where
     same : (c : HasSum d (w.at d).volume u.uid u.hash) → o ≡ c.1
     same c = let e : f ≡ c.0 = (h.members d).places.uids f c.0 o c.1 at c.2 (uid ∙ (sym id ∙ sym c.3)) in some_is o c.1 (sym at ∙ (ap (w.at d).volume.at e ∙ c.2))
-next_steps w h d contents quiet (InstallStep.Place file) (park, erase, make, rewrite) (f, o, u, at, uid, limbo, shown, id) volume = go (home w.all d (w.at d) u (h.members d) make shown)
+next_steps w h d contents quiet (InstallStep.Place file) (park, erase, make, rewrite) (f, o, u, at, uid, limbo, shown, id) = go (home w.all d (w.at d) u (h.members d) make shown)
   where
     parked : IsParked w.all d (w.at d)
     parked = record { one = h.versions.one_each; sound = h.members d; no_root = h.files.no_root; park = park }
+
+    CanBeDone : Uid → Type 0
+    CanBeDone file = (new : World) × IsDone w d (InstallStep.Place file) new
 
     r : IsRecordOf w d u
     r = shown_record (IsRecordOf w d) u shown
 
-    place : (g : ℕ) → u.parent ≡ parent_uid d (w.at d).volume g → IsDirectory (w.at d).volume g → (IsBeneath (w.at d).volume f g → ⊥) → CanBeDone w d (InstallStep.Place file)
-    place g there dir apart =
-        (cmd.Place f g u.name, _, (f, o, u, g, at, uid, r, id, there, refl), (
+    place : (g : ℕ) → u.parent ≡ parent_uid d (w.at d).volume g → IsDirectory (w.at d).volume g → (IsBeneath (w.at d).volume f g → ⊥) → CanBeDone file
+    place g there dir apart = (
+      _,
+      (
+        cmd.Place f g u.name,
+        (f, o, u, g, at, uid, r, id, there, refl),
+        (
           quiet,
           (o, u, at, shown, id ∙ sym uid, there, refl),
           (o, at, limbo, dir, apart, free w.all d (w.at d) f g o u parked at shown (id ∙ sym uid) there),
           refl,
-        ))
+        ),
+      ),
+    )
 
-    go : HasHome w.all d (w.at d) u → CanBeDone w d (InstallStep.Place file)
+    go : HasHome w.all d (w.at d) u → CanBeDone file
     go (inl root) = place 0 root (inl refl) (λ b. root_above w.all d (w.at d) (h.members d) f o at b.0 0 refl b.1)
     go (inr (p, g, q, pid, at', uid', dir, rp)) =
         place g (sym pid ∙ (sym uid' ∙ sym (parent_is d (w.at d).volume g q (h.members d).numbers.root at'))) (inr (q, at', dir))
         (λ b. no_cycle w.all d (w.at d) parked f g o q u p at r (id ∙ sym uid) at' uid' pid (λ e. h.files.no_root p rp.among.0 (pid ∙ e)) b shown.0 shown.0 (omega arith) shown.1)
-next_steps w h d contents quiet (InstallStep.Unstage file) turn candidate volume = absurd (volume.0 file refl)
-next_steps w h d contents quiet (InstallStep.Skip usn) turn candidate volume = absurd (volume.1 usn refl)
+next_steps w h d contents quiet (InstallStep.Unstage file) turn (f, o, at, uid, staged) = (_, (f, o, at, uid, staged, refl))
+next_steps w h d contents quiet (InstallStep.Skip usn) turn (r, is, at) =
+    let (held, is_held) = held_is w.all (w.at d).known r.uid in
+    (_, (0, is, quiet, (omega arith, _, (r, held, subst (λ n. (w.at d).volume.entry n ≡ Some r) is at, is_held, refl), refl)))

@@ -1,5 +1,5 @@
 -- Every file of a world has a view, and so few steps of the installer are done for it.
-use Rattle.std.proofs.Common.{◌≡◌, ◌≢◌, ◌⊎◌, ◌<◌, ◌≤◌, ◌+◌, ℕ, zero, suc, Bool, true, false, cond, List, [], ◌∷◌, refl, sym, ap, ◌∙◌, subst, arith, inl, inr, Option, Some, None}
+use Rattle.std.proofs.Common.{◌≡◌, ◌⊎◌, ◌<◌, ◌≤◌, ◌+◌, ℕ, zero, suc, Bool, true, false, cond, List, [], ◌∷◌, refl, sym, ap, ◌∙◌, subst, arith, inl, inr, Option, Some, None}
 use Rattle.std.specs.Prelude.{count_by}
 use Rattle.std.proofs.lemmas.List.Sums.{sum_by-cons}
 use Rattle.frs_base.specs.declared.sum.Sum.{Sum}
@@ -8,7 +8,7 @@ use Rattle.win_order.specs.declared.update.Update.{Update}
 use Rattle.vol_state.specs.declared.object.Object.{Object}
 use Rattle.vol_state.specs.State.{uid_of}
 use Rattle.vol_state.specs.Maps.{Maps}
-use Rattle.vol_state.specs.Tables.{IsAt, IsNew}
+use Rattle.vol_state.specs.Tables.{IsNew}
 use Rattle.record_db.specs.Records.{Has}
 use Rattle.record_db.proofs.Keys.{uid_cases}
 use Rattle.name_rules.specs.Recorded.{parent_uid}
@@ -144,8 +144,7 @@ view_of R l own m contents uid s =
     let placed = told_by (is_placed own m uid s) in
     let exact = told_by (is_exact R l own m uid s) in
     let differs = told_by (is_other R l own m uid s) in
-    let staged = told_by (is_staged (contents uid)) in
-    (
+    let staged = told_by (is_staged (contents uid)) in (
       record { shown = shown.0; tombstone = tombstone.0; file = file.0; object = object.0; placed = placed.0; exact = exact.0; differs = differs.0; staged = staged.0 },
       record { shown = shown.1; tombstone = tombstone.1; file = file.1; object = object.1; placed = placed.1; exact = exact.1; differs = differs.1; staged = staged.1 },
     )

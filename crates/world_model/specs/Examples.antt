@@ -1,15 +1,13 @@
 -- Three small worlds. Member 1 is primary, all others are plain.
-use Rattle.std.specs.Prelude.{◌≡◌, ◌==◌, ℕ, Bool, true, false, if◌then◌else◌, List, [], ◌∷◌, replicate}
+use Rattle.std.specs.Prelude.{◌≡◌, ◌==◌, ℕ, true, false, if◌then◌else◌, List, [], ◌∷◌, replicate}
 use Rattle.frs_base.specs.Identifiers.{content_set}
-use Rattle.frs_base.specs.declared.kind.MemberKind.{MemberKind}
 use Rattle.frs_base.specs.declared.kind.MemberKind.TheVariants.{Plain, Primary}
 use Rattle.frs_base.specs.declared.version.Gvsn.{Gvsn}
-use Rattle.frs_base.specs.declared.version.Uid.{Uid}
 use Rattle.win_order.specs.declared.update.Update.{Update}
 use Rattle.vol_state.specs.declared.command.VolCmd.TheVariants.{PutNew, PutOver}
 use Rattle.vol_state.specs.Conditions.{root_uid}
 use Rattle.vol_state.specs.Effects.{no_sum}
-use Rattle.record_db.specs.Records.{IsWinner, Versions, plus}
+use Rattle.record_db.specs.Records.{plus}
 use Rattle.world_model.specs.World.{World, IsRecordOf, fresh_world}
 use Rattle.world_model.specs.Events.{Event, Local, Consume, SendVector, SendUpdate, Adopt, Finish}
 use Rattle.world_model.specs.Runs.{Happening, Run}

@@ -1,5 +1,5 @@
 -- What holds of every run.
-use Rattle.std.specs.Prelude.{◌≡◌, ◌≢◌, ◌↔◌, ◌<◌, ◌≤◌, ◌-◌, ◌+◌, ℕ, Bool, true, false, All, List, [], ◌∷◌, Option, Some, count_by, length, sum_by}
+use Rattle.std.specs.Prelude.{◌≡◌, ◌↔◌, ◌<◌, ◌≤◌, ◌-◌, ℕ, Bool, true, false, All, List, [], ◌∷◌, Option, Some, count_by, length, sum_by}
 use Rattle.frs_base.specs.Options.{In}
 use Rattle.frs_base.specs.Versions.{same_uid}
 use Rattle.frs_base.specs.declared.kind.Kind.{Kind}
@@ -12,18 +12,18 @@ use Rattle.win_order.specs.declared.update.Update.{Update}
 use Rattle.vol_state.specs.declared.object.Object.{Object}
 use Rattle.vol_state.specs.declared.command.VolCmd.{VolCmd}
 use Rattle.vol_state.specs.State.{uid_of}
-use Rattle.vol_state.specs.Tables.{IsAt, IsReplica}
-use Rattle.record_db.specs.Records.{Versions, Covered, IsHeld, IsHeldOrBeaten, IsRecord}
+use Rattle.vol_state.specs.Tables.{IsAt}
+use Rattle.record_db.specs.Records.{Versions, Covered, IsHeldOrBeaten}
 use Rattle.name_rules.specs.Tree.{IsRow, IsVolumeRow, kind_of}
-use Rattle.name_rules.specs.Next.{IsCandidate, IsDrained, IsDue, IsPending, IsQuiet, IsStepOf, IsTurn, Step as InstallStep, content_sum}
-use Rattle.world_model.specs.World.{Member, World, SentVector, IsConsumed, IsRecordOf, fresh_member, fresh_world}
+use Rattle.name_rules.specs.Next.{IsCandidate, IsDrained, IsPending, IsQuiet, IsStepOf, IsTurn, Step as InstallStep, content_sum}
+use Rattle.world_model.specs.World.{Member, World, SentVector, IsRecordOf, fresh_member, fresh_world}
 use Rattle.world_model.specs.Events.{Event, Step, Adopt, Consume, Install, Unstage, IsAllHeld}
 use Rattle.world_model.specs.Runs.{CoversAlike, Grows, Happening, Run}
 use Rattle.world_model.specs.Invariant.{Invariant, SentIsKnown, VersionsAreMade}
 use Rattle.world_model.specs.Folder.{FolderIsSound, FoldersStaySound}
 use Rattle.world_model.specs.Rounds.{GoesOn, MayFinish, Polls, Round, RoundIsTrue}
 use Rattle.world_model.specs.Due.{Lowers, Sees, View, due}
-use Rattle.world_model.specs.Lives.{Act, Deed, FlightsAreKept, Happens, IsInFlight, Life, LifeRun}
+use Rattle.world_model.specs.Lives.{Deed, FlightsAreKept, Happens, IsInFlight, Life, LifeRun}
 
 -- ---- the invariant
 
@@ -95,19 +95,25 @@ EqualVectorsHaveEqualTrees = (w new : World) → Invariant w → Invariant new �
 abbrev pub HaveContents : (Uid → Option Sum) → Type 0
 HaveContents staged = (uid : Uid) (sum : Sum) → staged uid ≡ Some sum → (bytes : List ℕ) × (content_sum File bytes ≡ sum)
 
--- the operation of a candidate of the first kind that has one may be done
-abbrev pub CanBeDone : World → ℕ → InstallStep → Type 0
-CanBeDone w d step = (op : VolCmd) × (new : World) × IsStepOf (IsRecordOf w d) d (w.at d).volume step op × Step w d (Install op) new
+-- the operation of a step is done
+abbrev pub IsOperated : World → ℕ → InstallStep → World → Type 0
+IsOperated w d step new = (op : VolCmd) × IsStepOf (IsRecordOf w d) d (w.at d).volume step op × Step w d (Install op) new
 
--- a step on the volume: none of the last two kinds
-abbrev pub IsVolumeStep : InstallStep → Type 0
-IsVolumeStep step = ((uid : Uid) → step ≢ InstallStep.Unstage uid) × ((usn : ℕ) → step ≢ InstallStep.Skip usn)
+-- a step is done; the last two kinds leave the volume alone, and the last passes over a record of the installer's own
+abbrev pub IsDone : World → ℕ → InstallStep → World → Type 0
+IsDone w d (InstallStep.Park file) new = IsOperated w d (InstallStep.Park file) new
+IsDone w d (InstallStep.Erase file) new = IsOperated w d (InstallStep.Erase file) new
+IsDone w d (InstallStep.Make file) new = IsOperated w d (InstallStep.Make file) new
+IsDone w d (InstallStep.Rewrite file) new = IsOperated w d (InstallStep.Rewrite file) new
+IsDone w d (InstallStep.Place file) new = IsOperated w d (InstallStep.Place file) new
+IsDone w d (InstallStep.Unstage file) new = Step w d (Unstage file) new
+IsDone w d (InstallStep.Skip usn) new = (moment : ℕ) × (usn ≡ (w.at d).consumed) × IsQuiet (w.at d).consumed (w.at d).volume × Step w d (Consume moment) new
 
--- each next step on the volume can be done
+-- each next step can be done
 abbrev pub NextStepsCanBeDone : Type 0
 NextStepsCanBeDone = (w : World) → Invariant w → (d : ℕ) → HaveContents (w.at d).staged → IsQuiet (w.at d).consumed (w.at d).volume → (step : InstallStep)
     → IsTurn (IsRecordOf w d) d (w.at d).volume (w.at d).staged step → IsCandidate (IsRecordOf w d) d (w.at d).volume (w.at d).staged (w.at d).consumed step
-    → IsVolumeStep step → CanBeDone w d step
+    → (new : World) × IsDone w d step new
 
 -- no operation of the installer changes an object with a pending local record
 abbrev pub PendingObjectsStay : Type 0
@@ -176,20 +182,6 @@ ViewsAreThere = (w : World) → Invariant w → (d : ℕ) (uid : Uid) → (v : V
 -- at most four things are due for a file
 abbrev pub AtMostFourAreDue : Type 0
 AtMostFourAreDue = (w : World) → Invariant w → (d : ℕ) (uid : Uid) (v : View) → SeesAt w d uid v → due v ≤ 4
-
--- the operation of a step is done
-abbrev pub IsOperated : World → ℕ → InstallStep → World → Type 0
-IsOperated w d step new = (op : VolCmd) × IsStepOf (IsRecordOf w d) d (w.at d).volume step op × Step w d (Install op) new
-
--- a step is done; the last two kinds leave the volume alone, and the last passes over a record of the installer's own
-abbrev pub IsDone : World → ℕ → InstallStep → World → Type 0
-IsDone w d (InstallStep.Park file) new = IsOperated w d (InstallStep.Park file) new
-IsDone w d (InstallStep.Erase file) new = IsOperated w d (InstallStep.Erase file) new
-IsDone w d (InstallStep.Make file) new = IsOperated w d (InstallStep.Make file) new
-IsDone w d (InstallStep.Rewrite file) new = IsOperated w d (InstallStep.Rewrite file) new
-IsDone w d (InstallStep.Place file) new = IsOperated w d (InstallStep.Place file) new
-IsDone w d (InstallStep.Unstage file) new = Step w d (Unstage file) new
-IsDone w d (InstallStep.Skip usn) new = (moment : ℕ) × (usn ≡ (w.at d).consumed) × IsQuiet (w.at d).consumed (w.at d).volume × Step w d (Consume moment) new
 
 -- the step is for this file; the last kind is for none
 abbrev pub is_for : InstallStep → Uid → Bool

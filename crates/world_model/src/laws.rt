@@ -96,8 +96,8 @@ pub fn lives_are_sound()
     ensures { LivesAreSound }
 {}
 
-/// Each next step of the installer that has an operation on the volume can be done, where no local
-/// record is pending and what is staged has contents.
+/// Each next step of the installer can be done, where no local record is pending and what is staged
+/// has contents.
 pub fn next_steps_can_be_done()
     ensures { NextStepsCanBeDone }
 {}
