@@ -9,7 +9,7 @@ use Rattle.record_db.specs.Records.{Covered, IsHeldOrBeaten, IsWinner, Versions,
 use Rattle.record_db.proofs.Keys.{key_irrefl}
 use Rattle.world_model.specs.World.{World, IsRecordOf, with_member}
 use Rattle.world_model.specs.Events.{adopted_by, consumes, finished_by, operated, sends_update, sends_vector}
-use Rattle.world_model.specs.Examples.{IsOnly, Superseded, begin, file, superseded, version, x}
+use Rattle.world_model.specs.Examples.{DueRows, IsOnly, Superseded, begin, file, superseded, version, x}
 use Rattle.world_model.specs.Runs.{Run}
 use Rattle.name_rules.specs.Next.{IsPending}
 use Rattle.world_model.proofs.Changing.{at_other}
@@ -103,3 +103,8 @@ superseded_is = (w8, s1, second_wins _ refl, refl, refl, refl)
 
     s1 : Run begin superseded w8
     s1 = (w1, ((omega arith, (inl refl, (0, refl), λ g o p a e f m. absurd (none_some o a))), refl), s2)
+
+-- ---- what is due
+
+pub due_rows : DueRows
+due_rows = (refl, refl, refl, refl, refl)

@@ -1,4 +1,4 @@
--- Three small worlds. Member 1 is primary, all others are plain.
+-- A small world, where member 1 is primary and all others are plain, and what is due for a file.
 use Rattle.std.specs.Prelude.{◌≡◌, ◌==◌, ℕ, true, false, if◌then◌else◌, List, [], ◌∷◌, replicate}
 use Rattle.frs_base.specs.Identifiers.{content_set}
 use Rattle.frs_base.specs.declared.kind.MemberKind.TheVariants.{Plain, Primary}
@@ -11,6 +11,7 @@ use Rattle.record_db.specs.Records.{plus}
 use Rattle.world_model.specs.World.{World, IsRecordOf, fresh_world}
 use Rattle.world_model.specs.Events.{Event, Local, Consume, SendVector, SendUpdate, Adopt, Finish}
 use Rattle.world_model.specs.Runs.{Happening, Run}
+use Rattle.world_model.specs.Due.{View, due}
 
 -- ---- words for the rows
 
@@ -72,3 +73,29 @@ superseded =
 abbrev pub Superseded : Type 0
 Superseded = (w : World) × Run begin superseded w × IsOnly (IsRecordOf w 2) (file (version 1 10) 2 200)
     × ((w.at 2).known (version 1 9) ≡ true) × ((w.at 2).known (version 1 10) ≡ true) × ((w.at 2).known (version 1 11) ≡ false)
+
+-- ---- what is due
+
+-- a file that was moved and changed: its object is to be parked, rewritten and placed, and its content unstaged
+abbrev pub moved_and_changed : View
+moved_and_changed = record { shown = true; tombstone = false; file = true; object = true; placed = true; exact = false; differs = true; staged = true }
+
+-- a new file: it is to be made and placed, and its content unstaged
+abbrev pub new_file : View
+new_file = record { shown = true; tombstone = false; file = true; object = false; placed = false; exact = false; differs = false; staged = true }
+
+-- a removed file: its object is to be parked and erased
+abbrev pub removed : View
+removed = record { shown = false; tombstone = true; file = false; object = true; placed = true; exact = true; differs = true; staged = false }
+
+-- a file whose name another one has: its object is to be parked, and then stays
+abbrev pub hidden : View
+hidden = record { shown = false; tombstone = false; file = true; object = true; placed = true; exact = true; differs = false; staged = false }
+
+-- a file that is as its record says
+abbrev pub done : View
+done = record { shown = true; tombstone = false; file = true; object = true; placed = true; exact = true; differs = false; staged = false }
+
+-- as many are due for each
+abbrev pub DueRows : Type 0
+DueRows = (due moved_and_changed ≡ 4) × (due new_file ≡ 3) × (due removed ≡ 2) × (due hidden ≡ 1) × (due done ≡ 0)
