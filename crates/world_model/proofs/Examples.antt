@@ -9,7 +9,7 @@ use Rattle.record_db.specs.Records.{Covered, IsRecord, IsWinner, Versions, plus}
 use Rattle.name_rules.specs.Tree.{IsShown}
 use Rattle.world_model.specs.World.{World, IsRecordOf, with_member}
 use Rattle.world_model.specs.Events.{adopted_by, consumes, finished_by, operated, sends_update, sends_vector, unstaged_at}
-use Rattle.world_model.specs.Examples.{IsOnly, ParentCycle, Superseded, Tie, cycle, begin, changed_vector, file, first_vector, installed_vector, last_vector, moved_p, moved_q, superseded, tie, uid_p, version, x}
+use Rattle.world_model.specs.Examples.{DueRows, IsOnly, ParentCycle, Superseded, Tie, cycle, begin, changed_vector, file, first_vector, installed_vector, last_vector, moved_p, moved_q, superseded, tie, uid_p, version, x}
 use Rattle.world_model.specs.Runs.{Run}
 use Rattle.vol_state.specs.Conditions.{root_uid}
 use Rattle.vol_state.specs.Maps.{fresh_maps}
@@ -278,3 +278,8 @@ parent_cycle_is known p q = (moved_p_is, moved_q_is, none_shown (IsRecord cycle 
     by u r (inr (inr (inl e))) root = let bad : 10 ≡ 1 = ap (λ i. i.version) (ap (λ v. v.parent) (sym e) ∙ root) in absurd (omega (arith, bad))
     by u r (inr (inr (inr (inl e)))) root = let bad : 9 ≡ 1 = ap (λ i. i.version) (ap (λ v. v.parent) (sym e) ∙ root) in absurd (omega (arith, bad))
     by u r (inr (inr (inr (inr h)))) root = h
+
+-- ---- what is due
+
+pub due_rows : DueRows
+due_rows = (refl, refl, refl, refl, refl)

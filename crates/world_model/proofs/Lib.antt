@@ -22,3 +22,7 @@ pub mod Counting
 pub mod Computed
 pub mod Examples
 pub mod Trees
+pub mod Progress
+pub mod Deciding
+pub mod Due
+pub mod Views

@@ -55,7 +55,7 @@ pub record Sees (Records : Update → Type 0) (own : ℕ) (m : Maps) (contents :
   pub differs : Tells v.differs ((fid : ℕ) × (o : Object) × (u : Update) × IsObject own m uid fid o × Records u × (u.uid ≡ uid) × (o.sum ≡ u.hash → ⊥))
   pub staged : Tells v.staged ((sum : Sum) × (contents uid ≡ Some sum))
 
--- a step that is done leaves no file more that is due, and its own file less
-pub record Lowers (Views : Uid → View → Type 0) (After : Uid → View → Type 0) (own : Uid) : Type 0 where
-  pub others : (uid : Uid) (v v' : View) → Views uid v → After uid v' → due v' ≤ due v
-  pub less : (v v' : View) → Views own v → After own v' → due v' < due v
+-- what is due falls for the files of a step, and rises for none
+pub record Lowers (Views : Uid → View → Type 0) (After : Uid → View → Type 0) (own : Uid → Bool) : Type 0 where
+  pub no_more : (uid : Uid) (v v' : View) → Views uid v → After uid v' → due v' ≤ due v
+  pub less : (uid : Uid) (v v' : View) → own uid ≡ true → Views uid v → After uid v' → due v' < due v

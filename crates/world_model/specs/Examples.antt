@@ -11,6 +11,7 @@ use Rattle.vol_state.specs.Conditions.{root_uid}
 use Rattle.vol_state.specs.Effects.{no_sum}
 use Rattle.record_db.specs.Records.{IsRecord, Versions, both, plus}
 use Rattle.name_rules.specs.Tree.{IsShown}
+use Rattle.world_model.specs.Due.{View, due}
 use Rattle.world_model.specs.World.{World, IsRecordOf, fresh_world}
 use Rattle.world_model.specs.Events.{Event, Local, Consume, SendVector, SendUpdate, Adopt, Finish, Install, Unstage}
 use Rattle.world_model.specs.Runs.{Happening, Run}
@@ -167,3 +168,29 @@ cycle = directory uid_p (version 1 9) root_uid (0x70 ∷ []) 2 10 10 ∷ directo
 abbrev pub ParentCycle : Type 0
 ParentCycle = (known : Versions) → known (version 1 11) ≡ true → known (version 2 13) ≡ true
     → IsRecord cycle known moved_p × IsRecord cycle known moved_q × ((u : Update) → IsShown (IsRecord cycle known) u → ⊥)
+
+-- ---- what is due
+
+-- a file that was moved and changed: its object is to be parked, rewritten and placed, and its content unstaged
+abbrev pub moved_and_changed : View
+moved_and_changed = record { shown = true; tombstone = false; file = true; object = true; placed = true; exact = false; differs = true; staged = true }
+
+-- a new file: it is to be made and placed, and its content unstaged
+abbrev pub new_file : View
+new_file = record { shown = true; tombstone = false; file = true; object = false; placed = false; exact = false; differs = false; staged = true }
+
+-- a removed file: its object is to be parked and erased
+abbrev pub removed : View
+removed = record { shown = false; tombstone = true; file = false; object = true; placed = true; exact = true; differs = true; staged = false }
+
+-- a file whose name another one has: its object is to be parked, and then stays
+abbrev pub hidden : View
+hidden = record { shown = false; tombstone = false; file = true; object = true; placed = true; exact = true; differs = false; staged = false }
+
+-- a file that is as its record says
+abbrev pub done : View
+done = record { shown = true; tombstone = false; file = true; object = true; placed = true; exact = true; differs = false; staged = false }
+
+-- as many are due for each
+abbrev pub DueRows : Type 0
+DueRows = (due moved_and_changed ≡ 4) × (due new_file ≡ 3) × (due removed ≡ 2) × (due hidden ≡ 1) × (due done ≡ 0)

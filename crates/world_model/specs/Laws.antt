@@ -1,6 +1,7 @@
 -- What holds of every run.
-use Rattle.std.specs.Prelude.{◌≡◌, ◌≢◌, ◌↔◌, ◌<◌, ◌≤◌, ◌-◌, ℕ, true, false, All, List, [], Option, Some, length, sum_by}
+use Rattle.std.specs.Prelude.{◌≡◌, ◌≢◌, ◌↔◌, ◌<◌, ◌≤◌, ◌-◌, ℕ, true, false, All, List, [], Option, Some, length, sum_by, Bool, ◌∷◌, count_by}
 use Rattle.frs_base.specs.Options.{In}
+use Rattle.frs_base.specs.Versions.{same_uid}
 use Rattle.frs_base.specs.declared.kind.Kind.{Kind}
 use Rattle.frs_base.specs.declared.kind.Kind.TheVariants.{File}
 use Rattle.frs_base.specs.declared.kind.MemberKind.{MemberKind}
@@ -16,7 +17,7 @@ use Rattle.record_db.specs.Records.{Versions, Covered, IsHeldOrBeaten}
 use Rattle.name_rules.specs.Tree.{IsRow, IsVolumeRow, kind_of}
 use Rattle.name_rules.specs.Next.{IsCandidate, IsDrained, IsPending, IsQuiet, IsStepOf, IsTurn, Step as InstallStep, content_sum}
 use Rattle.world_model.specs.World.{Member, World, SentVector, IsRecordOf, fresh_member, fresh_world}
-use Rattle.world_model.specs.Events.{Event, Step, Adopt, Install, Unstage, IsAllHeld}
+use Rattle.world_model.specs.Events.{Event, Step, Adopt, Install, Unstage, IsAllHeld, Consume}
 use Rattle.world_model.specs.Runs.{CoversAlike, Grows, Happening, Run}
 use Rattle.world_model.specs.Invariant.{Invariant, SentIsKnown, VersionsAreMade}
 use Rattle.world_model.specs.Folder.{FolderIsSound, FoldersStaySound}
@@ -94,18 +95,25 @@ EqualVectorsHaveEqualTrees = (w new : World) → Invariant w → Invariant new �
 abbrev pub HaveContents : (Uid → Option Sum) → Type 0
 HaveContents staged = (uid : Uid) (sum : Sum) → staged uid ≡ Some sum → (bytes : List ℕ) × (content_sum File bytes ≡ sum)
 
--- the operation of a candidate of the first kind that has one may be done
-abbrev pub CanBeDone : World → ℕ → InstallStep → Type 0
-CanBeDone w d step = (op : VolCmd) × (new : World) × IsStepOf (IsRecordOf w d) d (w.at d).volume step op × Step w d (Install op) new
+-- the operation of a step is done
+abbrev pub IsOperated : World → ℕ → InstallStep → World → Type 0
+IsOperated w d step new = (op : VolCmd) × IsStepOf (IsRecordOf w d) d (w.at d).volume step op × Step w d (Install op) new
 
--- each next step but the last two kinds, which leave the volume alone, can be done
+-- a step is done; the last two kinds leave the volume alone, and the last passes over a record of the installer's own
+abbrev pub IsDone : World → ℕ → InstallStep → World → Type 0
+IsDone w d (InstallStep.Park file) new = IsOperated w d (InstallStep.Park file) new
+IsDone w d (InstallStep.Erase file) new = IsOperated w d (InstallStep.Erase file) new
+IsDone w d (InstallStep.Make file) new = IsOperated w d (InstallStep.Make file) new
+IsDone w d (InstallStep.Rewrite file) new = IsOperated w d (InstallStep.Rewrite file) new
+IsDone w d (InstallStep.Place file) new = IsOperated w d (InstallStep.Place file) new
+IsDone w d (InstallStep.Unstage file) new = Step w d (Unstage file) new
+IsDone w d (InstallStep.Skip usn) new = (moment : ℕ) × (usn ≡ (w.at d).consumed) × IsQuiet (w.at d).consumed (w.at d).volume × Step w d (Consume moment) new
+
+-- each next step can be done
 abbrev pub NextStepsCanBeDone : Type 0
 NextStepsCanBeDone = (w : World) → Invariant w → (d : ℕ) → HaveContents (w.at d).staged → IsQuiet (w.at d).consumed (w.at d).volume → (step : InstallStep)
     → IsTurn (IsRecordOf w d) d (w.at d).volume (w.at d).staged step → IsCandidate (IsRecordOf w d) d (w.at d).volume (w.at d).staged (w.at d).consumed step
-    → IsVolumeStep step → CanBeDone w d step
-  where
-    IsVolumeStep : InstallStep → Type 0
-    IsVolumeStep step = ((uid : Uid) → step ≢ InstallStep.Unstage uid) × ((usn : ℕ) → step ≢ InstallStep.Skip usn)
+    → (new : World) × IsDone w d step new
 
 -- no operation of the installer changes an object with a pending local record
 abbrev pub PendingObjectsStay : Type 0
@@ -167,24 +175,33 @@ FlightsCanLand = (l : Life) (d : ℕ) (e : Event) (after : Member) → IsInFligh
 abbrev pub SeesAt : World → ℕ → Uid → View → Type 0
 SeesAt w d uid v = Sees (IsRecordOf w d) d (w.at d).volume (w.at d).staged uid v
 
+-- each file of every world that keeps the invariant has a view
+abbrev pub ViewsAreThere : Type 0
+ViewsAreThere = (w : World) → Invariant w → (d : ℕ) (uid : Uid) → (v : View) × SeesAt w d uid v
+
 -- at most four things are due for a file
 abbrev pub AtMostFourAreDue : Type 0
 AtMostFourAreDue = (w : World) → Invariant w → (d : ℕ) (uid : Uid) (v : View) → SeesAt w d uid v → due v ≤ 4
 
--- each next step that is done lowers what is due for its file, and raises it for none; so at most four a file are done until the member is drained
-abbrev pub StepsLowerWhatIsDue : Type 0
-StepsLowerWhatIsDue = (w : World) → Invariant w → (d : ℕ) (step : InstallStep) (uid : Uid) (new : World)
-    → IsTurn (IsRecordOf w d) d (w.at d).volume (w.at d).staged step → IsCandidate (IsRecordOf w d) d (w.at d).volume (w.at d).staged (w.at d).consumed step
-    → IsDone step uid w d new → Lowers (SeesAt w d) (SeesAt new d) uid
-  where
-    by_operation : InstallStep → World → ℕ → World → Type 0
-    by_operation step w d new = (op : VolCmd) × IsStepOf (IsRecordOf w d) d (w.at d).volume step op × Step w d (Install op) new
+-- the step is for this file; the last kind is for none
+abbrev pub is_for : InstallStep → Uid → Bool
+is_for (InstallStep.Park file) uid = same_uid file uid
+is_for (InstallStep.Erase file) uid = same_uid file uid
+is_for (InstallStep.Make file) uid = same_uid file uid
+is_for (InstallStep.Rewrite file) uid = same_uid file uid
+is_for (InstallStep.Place file) uid = same_uid file uid
+is_for (InstallStep.Unstage file) uid = same_uid file uid
+is_for (InstallStep.Skip usn) uid = false
 
-    IsDone : InstallStep → Uid → World → ℕ → World → Type 0
-    IsDone (InstallStep.Unstage file) uid w d new = (uid ≡ file) × Step w d (Unstage file) new
-    IsDone (InstallStep.Skip usn) uid w d new = ⊥
-    IsDone (InstallStep.Park file) uid w d new = (uid ≡ file) × by_operation (InstallStep.Park file) w d new
-    IsDone (InstallStep.Erase file) uid w d new = (uid ≡ file) × by_operation (InstallStep.Erase file) w d new
-    IsDone (InstallStep.Make file) uid w d new = (uid ≡ file) × by_operation (InstallStep.Make file) w d new
-    IsDone (InstallStep.Rewrite file) uid w d new = (uid ≡ file) × by_operation (InstallStep.Rewrite file) w d new
-    IsDone (InstallStep.Place file) uid w d new = (uid ≡ file) × by_operation (InstallStep.Place file) w d new
+-- each step that is done lowers what is due for its file, and raises it for none
+abbrev pub StepsLowerWhatIsDue : Type 0
+StepsLowerWhatIsDue = (w : World) → Invariant w → (d : ℕ) (step : InstallStep) (new : World) → IsDone w d step new → Lowers (SeesAt w d) (SeesAt new d) (is_for step)
+
+-- steps are done at a member, one after the other
+abbrev pub AreDone : World → ℕ → List InstallStep → World → Type 0
+AreDone w d [] new = new ≡ w
+AreDone w d (step ∷ steps) new = (mid : World) × IsDone w d step mid × AreDone mid d steps new
+
+-- so at most four are done for a file, where nothing else happens between them
+abbrev pub AtMostFourAreDone : Type 0
+AtMostFourAreDone = (w : World) → Invariant w → (d : ℕ) (steps : List InstallStep) (new : World) → AreDone w d steps new → (uid : Uid) → count_by (λ step. is_for step uid) steps ≤ 4

@@ -1,5 +1,5 @@
 // What holds of every run.
-ghost use Rattle.world_model.specs.Laws.{AdoptionsAreFit, AllFoldersStaySound, AllIsCounted, CoverIsStable, CoveredIsHeld, DrainedVolumesAreTrees, EqualVectorsHaveEqualRecords, EqualVectorsHaveEqualTrees, EventsKeepTheInvariant, FinishedRoundsAreHeld, FlightsCanLand, FoldersBeginSound, FreshWorldsAreSound, LivesAreSound, PendingObjectsStay, RoundsStayTrue, RunsKeepTheInvariant, StaysCovered};
+ghost use Rattle.world_model.specs.Laws.{AdoptionsAreFit, AllFoldersStaySound, AllIsCounted, AtMostFourAreDone, AtMostFourAreDue, CoverIsStable, CoveredIsHeld, DrainedVolumesAreTrees, EqualVectorsHaveEqualRecords, EqualVectorsHaveEqualTrees, EventsKeepTheInvariant, FinishedRoundsAreHeld, FlightsCanLand, FoldersBeginSound, FreshWorldsAreSound, LivesAreSound, NextStepsCanBeDone, PendingObjectsStay, RoundsStayTrue, RunsKeepTheInvariant, StaysCovered, StepsLowerWhatIsDue, ViewsAreThere};
 
 /// Members that have done nothing keep the invariant.
 pub fn fresh_worlds_are_sound()
@@ -94,4 +94,30 @@ pub fn pending_objects_stay()
 /// Events, stops and restarts keep the invariant, and each event in flight can still land.
 pub fn lives_are_sound()
     ensures { LivesAreSound }
+{}
+
+/// Each next step of the installer can be done, where no local record is pending and what is staged
+/// has contents.
+pub fn next_steps_can_be_done()
+    ensures { NextStepsCanBeDone }
+{}
+
+/// At most four things are due for a file.
+pub fn at_most_four_are_due()
+    ensures { AtMostFourAreDue }
+{}
+
+/// Each step of the installer that is done lowers what is due for its file, and raises it for none.
+pub fn steps_lower_what_is_due()
+    ensures { StepsLowerWhatIsDue }
+{}
+
+/// Each file has a view: it can be told what is due for it.
+pub fn views_are_there()
+    ensures { ViewsAreThere }
+{}
+
+/// At most four steps of the installer are done for a file, where nothing else happens between them.
+pub fn at_most_four_are_done()
+    ensures { AtMostFourAreDone }
 {}
