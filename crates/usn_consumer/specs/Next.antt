@@ -1,5 +1,6 @@
 -- What consuming the next journal record comes to.
-use Rattle.std.specs.Prelude.{◌≡◌, ◌<◌, ◌≤◌, ◌^◌, ◌==◌, ◌⊎◌, ℕ, Bool, if◌then◌else◌, Option, Some, None, IsSome}
+use Rattle.std.specs.Prelude.{◌≡◌, ◌<◌, ◌≤◌, ◌^◌, ◌==◌, ◌⊎◌, nat_lt, ℕ, Bool, if◌then◌else◌, List, Option, Some, None, IsSome}
+use Rattle.std.specs.List.{list_all}
 use Rattle.win_order.specs.declared.update.Update.{Update}
 use Rattle.vol_state.specs.Journal.{record_at}
 use Rattle.vol_state.specs.State.{State}
@@ -13,6 +14,10 @@ use Rattle.usn_consumer.specs.declared.consumed.Consumed.TheVariants.{Skip, Make
 -- it is the next USN of the volume, or the USN of a journal record
 abbrev pub IsNext : State → ℕ → Type 0
 IsNext v usn = (usn ≡ v.next_usn) ⊎ IsSome (record_at v.journal usn)
+
+-- the clock of each record is below 2^62
+abbrev pub have_clocks : List Update → Bool
+have_clocks records = list_all (λ u. nat_lt u.clock (2 ^ 62)) records
 
 -- an update, if any
 abbrev pub making : Option Update → Consumed

@@ -1,7 +1,6 @@
 // Consuming the journal.
-ghost use Rattle.std.specs.Prelude.{◌≡◌, ◌<◌, ◌^◌, IfErr, IfOk};
-ghost use Rattle.std.specs.List.{AllByRecursion};
-ghost use Rattle.usn_consumer.specs.Next.{HasClock, IsNext, IsSkewed, next_of};
+ghost use Rattle.std.specs.Prelude.{◌≡◌, true, IfErr, IfOk};
+ghost use Rattle.usn_consumer.specs.Next.{HasClock, IsNext, IsSkewed, have_clocks, next_of};
 
 use crate::made::{Mark, base_fence, recorded_of};
 use crate::{ConsumeError, Consumed};
@@ -21,7 +20,7 @@ pub fn next_record(
 ) -> Result<Consumed, ConsumeError>
     requires own { volume.now.state.own ≡ book.now.state.own }
     requires next { IsNext volume.now.state book.now.state.consumed }
-    requires clocks { AllByRecursion (λ u. u.clock < 2 ^ 62) book.now.state.records }
+    requires clocks { have_clocks book.now.state.records ≡ true }
     ensures answer { IfOk result (λ found. found ≡ next_of volume.now.state book.now.state moment) }
     ensures clock { IfOk result (λ found. HasClock found) }
     ensures skewed { IfErr result (λ e. IsSkewed e (next_of volume.now.state book.now.state moment)) }
