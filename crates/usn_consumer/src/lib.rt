@@ -10,3 +10,6 @@ mod made;
 
 pub use consume::next_record;
 pub use consumed::{ConsumeError, Consumed};
+
+#[cfg(test)]
+mod tests;
