@@ -1,7 +1,8 @@
 #!/bin/sh
 # Times the built program on scripts of `show` lines, of `change` lines over 97 paths, the largest
-# that a script may be and smaller ones, these with a bad row at their end, and of three members that
-# change and pull. Each time is the least of five runs, with the start of the process in it.
+# that a script may be and smaller ones, these with a bad row at their end, one of paths of 64
+# components, and of three members that change and pull. Each time is the least of five runs, with the
+# start of the process in it.
 # Usage: bench/four-lines.sh, anywhere in the repository.
 set -eu
 top=$(cd "$(dirname "$0")/.." && pwd)
@@ -35,6 +36,12 @@ pulls() {
     }'
 }
 
+# one member, and this many `change` lines at a path of 64 components, which are read and not done
+deep() {
+    echo 'member a primary'
+    yes "change a $(printf 'c/%.0s' $(seq 63))c 1" | head -n "$1"
+}
+
 # as many of the first lines as the largest script has room for
 largest() {
     head -c 16777212 | sed '$d'
@@ -66,6 +73,10 @@ for kind in shows changes; do
     echo "$(wc -c <"$work/script") bytes, the most $kind and a bad row: $(timed "$work/script") microseconds"
     tail -n 1 "$work/out"
 done
+
+deep 130000 | largest >"$work/script"
+echo "$(wc -c <"$work/script") bytes, paths of 64 components: $(timed "$work/script") microseconds"
+tail -n 1 "$work/out"
 
 for lines in 5000 10000 20000; do
     pulls $lines >"$work/script"
