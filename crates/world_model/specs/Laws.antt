@@ -1,5 +1,5 @@
 -- What holds of every run.
-use Rattle.std.specs.Prelude.{◌≡◌, ◌≢◌, ◌↔◌, ◌<◌, ◌≤◌, ◌-◌, ℕ, true, false, All, List, [], Option, Some, length, sum_by, Bool, ◌∷◌, count_by}
+use Rattle.std.specs.Prelude.{◌≡◌, ◌↔◌, ◌<◌, ◌≤◌, ◌-◌, ℕ, true, false, All, List, [], Option, Some, length, sum_by, Bool, ◌∷◌, count_by}
 use Rattle.frs_base.specs.Options.{In}
 use Rattle.frs_base.specs.Versions.{same_uid}
 use Rattle.frs_base.specs.declared.kind.Kind.{Kind}
