@@ -18,4 +18,6 @@ mod Numbering
 mod Standing
 mod Recent
 mod Tabling
+mod Permitted
 mod Waying
+mod Resolved

@@ -21,47 +21,49 @@ use Rattle.vol_state.specs.Tables.{IsAt, IsBeneath, IsFree, IsEmpty, IsLocal}
 abbrev pub IsChild : Maps → ℕ → List ℕ → ℕ → Object → Type 0
 IsChild m parent name fid o = (p : ℕ × List ℕ) × IsAt m fid o × (o.place ≡ Some p) × (p.0 ≡ parent) × (matches p.1 name ≡ true)
 
--- a directory, a file, nobody stands there under a matching name
+-- this directory stands there under a matching name
 abbrev pub HasDirectory : Maps → ℕ → List ℕ → ℕ → Type 0
 HasDirectory m parent name fid = (o : Object) × IsChild m parent name fid o × (is_directory o.kind ≡ true)
 
+-- this file does
 abbrev pub HasFile : Maps → ℕ → List ℕ → ℕ → Type 0
 HasFile m parent name fid = (o : Object) × IsChild m parent name fid o × (is_directory o.kind ≡ false)
 
+-- nobody does
 abbrev pub HasNobody : Maps → ℕ → List ℕ → Type 0
 HasNobody m parent name = (fid : ℕ) (o : Object) → IsChild m parent name fid o → ⊥
 
 -- ---- paths
 
--- the components are directories, each in the one before it, the first in this one; they lead to that one
+-- the components lead from one directory to another: each names a directory in the one before it
 abbrev pub Goes : Maps → ℕ → List (List ℕ) → ℕ → Type 0
 Goes m from [] to = from ≡ to
 Goes m from (name ∷ rest) to = (fid : ℕ) × HasDirectory m from name fid × Goes m fid rest to
 
--- the directory of a path's last component, and that component
+-- all components but the last lead from the root to this directory, and the last is this name
 abbrev pub IsWay : Maps → List (List ℕ) → ℕ → List ℕ → Type 0
 IsWay m path parent name = (above : List (List ℕ)) × (path ≡ above ++ name ∷ []) × Goes m 0 above parent
 
--- nothing stands where a directory should, or a file does
+-- why a component leads to no directory: nothing has the name there, or a file has it
 abbrev pub Stops : Maps → ℕ → List ℕ → Refused → Type 0
 Stops m parent name why =
     (HasNobody m parent name × (why ≡ NoPath))
     ⊎ ((fid : ℕ) × HasFile m parent name fid × (why ≡ NotDirectory))
 
--- a path has no component, or stops at the first that isn't a directory and has another behind it
+-- why a path leads to no directory: it has no component, or stops at the first that names none and has another behind it
 abbrev pub IsNoWay : Maps → List (List ℕ) → Refused → Type 0
 IsNoWay m path why =
     ((path ≡ []) × (why ≡ NoPath))
     ⊎ ((above : List (List ℕ)) × (name next : List ℕ) × (rest : List (List ℕ)) × (parent : ℕ)
     × (path ≡ above ++ name ∷ next ∷ rest) × Goes m 0 above parent × Stops m parent name why)
 
--- a path's refusal, or what comes next in the directory of its last component
+-- the answer is the path's refusal, or what comes next at its directory and last name
 abbrev pub Follows : Maps → List (List ℕ) → (ℕ → List ℕ → Result VolCmd Refused → Type 0) → Result VolCmd Refused → Type 0
 Follows m path next answer =
     ((why : Refused) × IsNoWay m path why × (answer ≡ Err why))
     ⊎ ((parent : ℕ) × (name : List ℕ) × IsWay m path parent name × next parent name answer)
 
--- likewise with the object that the path leads to
+-- the answer is the path's refusal, or what comes next for the object that it leads to
 abbrev pub Finds : Maps → List (List ℕ) → (ℕ → Result VolCmd Refused → Type 0) → Result VolCmd Refused → Type 0
 Finds m path next = Follows m path (λ parent name answer.
     (HasNobody m parent name × (answer ≡ Err NoPath))
@@ -69,20 +71,20 @@ Finds m path next = Follows m path (λ parent name answer.
 
 -- ---- the table
 
--- put there: over a file, or a new one
+-- put there: a directory refuses, a file is overwritten, else a file is made
 abbrev pub Puts : Maps → List ℕ → ℕ → List ℕ → Result VolCmd Refused → Type 0
 Puts m bytes parent name answer =
     ((fid : ℕ) × HasDirectory m parent name fid × (answer ≡ Err NameTaken))
     ⊎ (((fid : ℕ) × HasFile m parent name fid × (answer ≡ Ok (PutOver fid bytes)))
     ⊎ (HasNobody m parent name × (answer ≡ Ok (PutNew parent name bytes))))
 
--- mkdir there
+-- mkdir there: whoever has the name refuses
 abbrev pub Makes : Maps → ℕ → List ℕ → Result VolCmd Refused → Type 0
 Makes m parent name answer =
     ((fid : ℕ) × (o : Object) × IsChild m parent name fid o × (answer ≡ Err NameTaken))
     ⊎ (HasNobody m parent name × (answer ≡ Ok (Mkdir parent name)))
 
--- move it there
+-- move it there: not into or beneath itself, then not onto another's name
 abbrev pub Moves : Maps → ℕ → ℕ → List ℕ → Result VolCmd Refused → Type 0
 Moves m fid parent name answer =
     (IsBeneath m fid parent × (answer ≡ Err Looped))
@@ -90,13 +92,13 @@ Moves m fid parent name answer =
     × (((other : ℕ) × (o : Object) × IsChild m parent name other o × (other ≢ fid) × (answer ≡ Err NameTaken))
     ⊎ (IsFree m fid parent name × (answer ≡ Ok (Move fid parent name)))))
 
--- remove it
+-- remove it: not where something stands in it
 abbrev pub Removes : Maps → ℕ → Result VolCmd Refused → Type 0
 Removes m fid answer =
     ((other : ℕ) × (o : Object) × (p : ℕ × List ℕ) × IsAt m other o × (o.place ≡ Some p) × (p.0 ≡ fid) × (answer ≡ Err NotEmpty))
     ⊎ (IsEmpty m fid × (answer ≡ Ok (Remove fid)))
 
--- what an operation comes to: the first refusal of its row, or the command
+-- what an operation comes to: the first refusal of its row, or its command
 abbrev pub Resolves : Maps → LocalOp → Result VolCmd Refused → Type 0
 Resolves m (op.Put path bytes) answer =
     ((largest < length bytes) × (answer ≡ Err (TooLarge (length bytes))))

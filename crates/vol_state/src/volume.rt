@@ -1,8 +1,8 @@
 // The volume of a member.
 ghost use Rattle.std.specs.Prelude.{◌≡◌, find, option_copied};
 ghost use Rattle.frs_base.specs.Versions.{same_uid};
-ghost use Rattle.vol_state.specs.Places.{object_at};
 ghost use Rattle.vol_state.specs.Paths.{check};
+ghost use Rattle.vol_state.specs.Places.{object_at};
 ghost use Rattle.vol_state.specs.Journal.{last_local, pending_local, record_at};
 ghost use Rattle.vol_state.specs.State.{object_of, uid_of};
 ghost use Rattle.vol_state.specs.Valid.{IsVolume};
@@ -109,20 +109,20 @@ impl Volume {
         self.journal.pending_local(uid, from)
     }
 
-    /// The object with this number.
-    pub fn object_at(&self, fid: u64) -> Option<&Object>
-        ensures object { option_copied result ≡ object_at self.now.state.objects fid }
-        ensures valid { IsVolume self.now.state }
-    {
-        self.shelf.object_at(fid)
-    }
-
     /// The object with this UID.
     pub fn object_of(&self, uid: Uid) -> Option<&Object>
         ensures object { option_copied result ≡ object_of self.now.state uid }
         ensures valid { IsVolume self.now.state }
     {
         self.shelf.object_of(&uid)
+    }
+
+    /// The object with this number.
+    pub fn object_at(&self, fid: u64) -> Option<&Object>
+        ensures object { option_copied result ≡ object_at self.now.state.objects fid }
+        ensures valid { IsVolume self.now.state }
+    {
+        self.shelf.object_at(fid)
     }
 
     /// The objects, to look them up.

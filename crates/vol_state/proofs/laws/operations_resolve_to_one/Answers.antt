@@ -1,4 +1,4 @@
-use Rattle.vol_state.proofs.Waying.{resolves_to_one}
+use Rattle.vol_state.proofs.Resolved.{resolves_to_one}
 use Rattle.vol_state.proofs.laws.operations_resolve_to_one.Goals as goal
 
 pub returns : goal.returns
