@@ -238,7 +238,7 @@ fn a_vector_that_would_be_too_long_is_refused(rt: HostRuntime) -> Result<(), Fai
         ("adopt 2 9 9 100", Ok(()), 65_536),
         ("adopt 2 11 9 100", Ok(()), 65_535),
         ("finish 3 9 20", full, 65_536),
-        ("finish 2 10 20", Ok(()), 65_532),
+        ("finish 2 10 20", Ok(()), 65_531),
     ] {
         let (answer, found) = answer(rt.alloc(), line)?;
         assert_eq!(rt; answer, wanted, "{line}");
