@@ -2,3 +2,5 @@ pub mod Keys
 pub mod Sets
 pub mod Best
 pub mod Lists
+pub mod Places
+pub mod Kept

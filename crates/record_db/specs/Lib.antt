@@ -1,2 +1,4 @@
 pub mod Records
 pub mod Lists
+pub mod State
+pub mod Steps
