@@ -1,12 +1,11 @@
 -- What is true of every book stays so.
-use Rattle.std.proofs.Common.{◌≡◌, ◌<◌, ◌≤◌, ◌&&◌, ◌||◌, Bool, true, false, cond, List, [], ◌∷◌, refl, sym, ap, ◌∙◌, subst, length, Option, Some, None, MatchOption}
+use Rattle.std.proofs.Common.{◌≡◌, ◌≤◌, true, List, [], ◌∷◌, refl, length, Option, Some, None}
 use Rattle.std.specs.Prelude.{option_map}
 use Rattle.std.specs.List.{AllByRecursion}
-use Rattle.frs_base.specs.Versions.{same_uid, uid_lt}
 use Rattle.version_vector.specs.Versions.{IsCanonical, covers}
 use Rattle.version_vector.specs.declared.interval.Interval.{Interval}
 use Rattle.win_order.specs.declared.update.Update.{Update}
-use Rattle.record_db.specs.Lists.{IsRising, put_any, put_record}
+use Rattle.record_db.specs.Lists.{put_any}
 use Rattle.record_db.specs.State.{BookState, IsBook}
 use Rattle.record_db.specs.Steps.{CoversAny, CoversMore, in_set}
 use Rattle.record_db.proofs.Lists.{put_all, put_rising}

@@ -4,3 +4,4 @@ pub mod Best
 pub mod Lists
 pub mod Places
 pub mod Kept
+pub mod Standing

@@ -3,7 +3,7 @@ use Rattle.std.specs.Prelude.{◌≡◌, ◌≤◌, ℕ, true, List, [], length}
 use Rattle.std.specs.List.{AllByRecursion}
 use Rattle.frs_base.specs.declared.kind.MemberKind.{MemberKind}
 use Rattle.frs_base.specs.declared.kind.Phase.{Phase}
-use Rattle.frs_base.specs.declared.kind.Phase.TheVariants.{Initial, Normal}
+use Rattle.frs_base.specs.declared.kind.Phase.TheVariants.{Initial}
 use Rattle.frs_base.specs.declared.version.Gvsn.{Gvsn}
 use Rattle.version_vector.specs.Versions.{IsCanonical, covers}
 use Rattle.version_vector.specs.declared.interval.Interval.{Interval}

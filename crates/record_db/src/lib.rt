@@ -7,8 +7,13 @@
 
 mod book;
 mod command;
+mod laws;
 mod records;
 
 pub use book::Book;
 pub use command::{BookCmd, Ready};
+pub use laws::{
+    adopting_books_stand, books_find_winners, books_of_one_set_are_alike, finishing_books_stand,
+    fresh_books_stand, recording_books_stand, standing_books_stay,
+};
 pub use records::find_record;

@@ -1,10 +1,10 @@
-use Rattle.std.proofs.Common.{◌≡◌, ◌<◌, ◌≤◌, ◌∙◌, true, false, ap, sym, arith, get_or, length, set}
+use Rattle.std.proofs.Common.{◌≡◌, ◌≤◌, ◌∙◌, true, false, ap, sym, arith, get_or, length, set}
 use Rattle.std.specs.Prelude.{insert}
 use Rattle.std.proofs.lemmas.List.{get_or_read}
 use Rattle.std.proofs.lemmas.List.Sums.{prefix_len-le-length}
 use Rattle.frs_base.specs.Versions.{same_uid, uid_lt}
 use Rattle.record_db.specs.Lists.{put_record}
-use Rattle.record_db.proofs.Places.{place_for, put_between, put_over}
+use Rattle.record_db.proofs.Places.{put_between, put_over}
 use Rattle.record_db.proofs.records.put_record.Goals as goal
 use Rattle.record_db.proofs.records.put_record.Goals.{else-at-held-via-then-at-held+else-eq, else-at-held-via-else-at-held}
 

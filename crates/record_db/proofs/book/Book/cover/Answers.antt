@@ -1,5 +1,4 @@
-use Rattle.std.proofs.Common.{◌≡◌, ap, subst, sym, None, Some}
-use Rattle.record_db.specs.State.{BookState, IsBook}
+use Rattle.std.proofs.Common.{ap, subst, sym, None, Some}
 use Rattle.record_db.specs.Steps.{CoversAny, CoversMore}
 use Rattle.record_db.proofs.Kept.{kept}
 use Rattle.record_db.proofs.book.Book.cover.Goals as goal
