@@ -45,14 +45,11 @@ in_own_set set u same = λ i. record u { set = sym same i }
 
 run_finds : (journal : List VolRecord) (from usn : ℕ) → RunsFrom from journal → from ≤ usn → usn < from + length journal → (r : VolRecord) × (record_at journal usn ≡ Some r)
 run_finds [] from usn run low high = absurd (omega (arith, low, high))
-run_finds (r ∷ rs) from usn run low high = by (eqb r.usn usn) refl
+run_finds (r ∷ rs) from usn run low high = by (eqb r.usn usn) refl (λ past. run_finds rs (from + 1) usn run.1 past (omega (arith, high)))
   where
-    by : (b : Bool) → eqb r.usn usn ≡ b → (s : VolRecord) × (cond b (Some r) (record_at rs usn) ≡ Some s)
-    by true e = (r, refl)
-    by false e =
-        let first = run.0 in
-        let past : from + 1 ≤ usn = grind (arith, nat_tests) in
-        run_finds rs (from + 1) usn run.1 past (omega (arith, high))
+    by : (b : Bool) → eqb r.usn usn ≡ b → (from + 1 ≤ usn → (s : VolRecord) × (record_at rs usn ≡ Some s)) → (s : VolRecord) × (cond b (Some r) (record_at rs usn) ≡ Some s)
+    by true e later = (r, refl)
+    by false e later = let first = run.0 in let past : from + 1 ≤ usn = grind (arith, nat_tests) in later past
 
 -- each USN below the next one has its record
 pub record_there : (v : State) (usn : ℕ) → IsNumbered v → 9 ≤ usn → usn < v.next_usn → (r : VolRecord) × (record_at v.journal usn ≡ Some r)

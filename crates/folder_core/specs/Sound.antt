@@ -31,11 +31,10 @@ member_of m staged = record {
 abbrev pub Agrees : Machine → Type 0
 Agrees m = (staged : Uid → Option Sum) × FolderIsSound m.book.own (member_of m staged) m.book.records
 
--- versions are made and taken once, and clocks stay in their bounds
+-- no own version is covered that isn't consumed, and clocks stay below 2^62
 pub record IsInBounds (book : BookState) : Type 0 where
   pub begun : 9 ≤ book.consumed
   pub ahead : (g : Gvsn) → covers book.vector g ≡ true → g.db ≡ book.own → g.version < book.consumed
-  pub one_each : (u v : Update) → In u book.records → In v book.records → u.gvsn ≡ v.gvsn → u ≡ v
   pub clocks : (u : Update) → In u book.records → u.clock < 2 ^ 62
 
 -- the journal's USNs run from 9 without a gap up to the next, all numbers in use are below the next ones
