@@ -4,3 +4,4 @@ pub mod Held
 pub mod Bounds
 pub mod Agreeing
 pub mod Sounding
+pub mod Fitting

@@ -51,7 +51,7 @@ fresh_is_sound kind own set volume book = record {
   bounds = record {
     begun = omega arith;
     ahead = λ g covered. absurd (cc covered);
-    clocks = λ u a. absurd a;
+    clocks = tt;
   };
   agrees = λ same. (λ uid. Option.None, folders_begin own kind);
 }
@@ -97,7 +97,7 @@ pub recorded_sound : (m : Machine) (moment : ℕ) (made : Option Update) (new : 
     → IsBook new → Changes (cmd.RecordLocal m.book.consumed made) m.book new → IsSound (record m { book = new })
 recorded_sound m moment made new h is has left book c = record {
   order = order_after m (cmd.RecordLocal m.book.consumed made) new h.order (omega (arith, left)) book c;
-  bounds = bounds_recorded m.book new made h.order.book.rising h.bounds has c;
+  bounds = bounds_recorded m.book new made h.bounds has c;
   agrees = λ set. agrees_recorded m moment made new h.order (sym c.set ∙ set) is h.bounds.begun left c (h.agrees (sym c.set ∙ set));
 }
 
@@ -107,7 +107,7 @@ pub adopted_sound : (m : Machine) (u : Update) (new : BookState) → IsSound m �
     → IsBook new → Changes (cmd.Adopt u) m.book new → IsSound (record m { book = new })
 adopted_sound m u new h set clock made fit book c = record {
   order = order_after m (cmd.Adopt u) new h.order h.order.consumed book c;
-  bounds = bounds_adopted m.book new u h.order.book.rising h.bounds clock made c;
+  bounds = bounds_adopted m.book new u h.bounds clock made c;
   agrees = λ same. agrees_adopted m u new set (fit (sym c.set ∙ same)) c (h.agrees (sym c.set ∙ same));
 }
 
