@@ -2,7 +2,7 @@
 use Rattle.std.specs.Prelude.{◌≡◌, ◌≢◌, true, false}
 use Rattle.record_db.specs.declared.command.BookCmd.{BookCmd}
 use Rattle.record_db.specs.State.{BookState, IsBook}
-use Rattle.record_db.specs.Steps.{Changes}
+use Rattle.record_db.specs.Steps.{Changes, is_allowed}
 use Rattle.folder_core.specs.declared.answer.Answer.{Answer}
 use Rattle.folder_core.specs.Machine.{Machine}
 use Rattle.folder_core.specs.Notes.{mark_of}
@@ -21,3 +21,9 @@ StaysSound cmd m = (new : BookState) → IsBook new → Changes cmd m.book new �
 -- and has another vector
 abbrev pub ChangesVector : BookCmd → Machine → Type 0
 ChangesVector cmd m = (new : BookState) → Changes cmd m.book new → new.vector ≢ m.book.vector
+
+-- the command may be taken, and changes the vector
+pub record MayTake (cmd : BookCmd) (m : Machine) : Type 0 where
+  pub allowed : is_allowed cmd m.book ≡ true
+  pub sound : StaysSound cmd m
+  pub changes : ChangesVector cmd m

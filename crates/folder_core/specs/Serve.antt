@@ -4,8 +4,8 @@ use Rattle.frs_base.specs.declared.version.Uid.{Uid}
 use Rattle.win_order.specs.declared.update.Update.{Update}
 use Rattle.vol_state.specs.Journal.{pending_local}
 use Rattle.name_rules.specs.Recorded.{held_of}
-use Rattle.pinned_pages.specs.declared.FileAnswer.{FileAnswer}
-use Rattle.pinned_pages.specs.declared.FileAnswer.TheVariants.{Found, NotYet, NoRecord}
+use Rattle.pinned_pages.specs.declared.answer.FileAnswer.{FileAnswer}
+use Rattle.pinned_pages.specs.declared.answer.FileAnswer.TheVariants.{Found, NotYet, NoRecord}
 use Rattle.folder_core.specs.declared.reply.Reply.{Reply}
 use Rattle.folder_core.specs.declared.reply.Reply.TheVariants.{File, Sent}
 use Rattle.folder_core.specs.Machine.{Machine}

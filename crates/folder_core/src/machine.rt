@@ -3,8 +3,12 @@ ghost use Rattle.std.specs.Prelude.{◌≡◌};
 ghost use Rattle.folder_core.specs.Machine.{fresh_machine};
 ghost use Rattle.folder_core.specs.Sound.{IsSound};
 
+mod adopt;
 mod book;
+mod consume;
+mod finish;
 mod local;
+mod serve;
 
 use frs_base::{Guid, MemberKind};
 use record_db::Book;

@@ -3,7 +3,7 @@ ghost use Rattle.std.specs.Prelude.{◌≡◌, true, IfErr, IfOk, OnErr, OnOk};
 ghost use Rattle.version_vector.specs.Limits.{IsTooLong};
 ghost use Rattle.record_db.specs.Steps.{covered_after, is_allowed};
 ghost use Rattle.folder_core.specs.Books.{Changed, Takes};
-ghost use Rattle.folder_core.specs.Given.{ChangesVector, IsNoted, StaysSound};
+ghost use Rattle.folder_core.specs.Given.{IsNoted, MayTake, StaysSound};
 ghost use Rattle.folder_core.specs.Notes.{mark_of};
 
 use super::Machine;
@@ -36,9 +36,7 @@ impl Machine {
         reply: Reply,
         mark: Mark,
     ) -> Result<Answer, AllocError>
-        requires allowed { is_allowed cmd self.old.book ≡ true }
-        requires sound { StaysSound cmd self.old }
-        requires changes { ChangesVector cmd self.old }
+        requires may { MayTake cmd self.old }
         requires mark { mark ≡ mark_of reply }
         ensures answers { IfOk result (λ answer. Takes cmd reply self.old answer.reply self.new) }
         ensures noted { IfOk result (λ answer. IsNoted answer self.old self.new) }
