@@ -9,6 +9,7 @@ mod answer;
 mod copies;
 mod entry;
 mod event;
+mod folder;
 mod machine;
 mod mark;
 mod note;
@@ -17,6 +18,7 @@ mod reply;
 
 pub use entry::Entry;
 pub use event::Event;
+pub use folder::Folder;
 pub use mark::{FileMark, Mark};
 pub use note::{LocalNote, Note};
 pub use refusal::Refusal;
