@@ -8,3 +8,4 @@ pub mod Fitting
 pub mod Consuming
 pub mod Finishing
 pub mod Replaying
+pub mod OneAnswer

@@ -10,6 +10,7 @@ mod copies;
 mod entry;
 mod event;
 mod folder;
+mod laws;
 mod machine;
 mod mark;
 mod note;
@@ -19,7 +20,11 @@ mod reply;
 pub use entry::Entry;
 pub use event::Event;
 pub use folder::Folder;
+pub use laws::{answers_are_one, runs_are_one};
 pub use mark::{FileMark, Mark};
 pub use note::{LocalNote, Note};
 pub use refusal::Refusal;
 pub use reply::Reply;
+
+#[cfg(test)]
+mod tests;
