@@ -167,7 +167,7 @@ answers_are_one at old (event.Finish from place sent seen) a b x y sound (inl (n
     (p.0 ∙ (ap (λ k. reply.Refused (why.OwnAhead k)) (least_one old sent n m least lesser) ∙ sym q.0), p.1 ∙ sym q.1)
 answers_are_one at old (event.Finish from place sent seen) a b x y sound (inl (n, least, p)) (inr (none, k)) = absurd (none n least.0)
 answers_are_one at old (event.Finish from place sent seen) a b x y sound (inr (none, h)) (inl (m, least, q)) = absurd (none m least.0)
-answers_are_one at old (event.Finish from place sent seen) a b x y sound (inr (none, h)) (inr (no, k)) =
+answers_are_one at old (event.Finish from place sent seen) a b x y sound (inr (none, h)) (inr (never, k)) =
     choice_one (first_unheld old.book.records seen) _ _ (λ u. why.Unheld u.uid) a b old x y sound.order.book.canonical h k
 
 -- and a run of events
