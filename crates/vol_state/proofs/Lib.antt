@@ -16,3 +16,5 @@ mod Walks
 mod Hinted
 mod Numbering
 mod Standing
+mod Tabling
+mod Waying

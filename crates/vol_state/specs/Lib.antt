@@ -14,3 +14,4 @@ pub mod Laws
 pub mod Seen
 pub mod Maps
 pub mod Tables
+pub mod Ways
