@@ -12,6 +12,7 @@ use Rattle.vol_state.specs.Effects.{no_sum}
 use Rattle.vol_state.specs.Conditions.{root_uid}
 use Rattle.vol_state.specs.Maps.{Maps}
 use Rattle.vol_state.specs.Tables.{IsAt}
+use Rattle.name_rules.specs.Recorded.{hash_of}
 
 -- what an update is of
 abbrev pub kind_of : Update → Kind
@@ -59,8 +60,4 @@ StandsAt m parent (name ∷ next ∷ path) o = (fid : ℕ) × (d : Object) × Is
 
 -- a row of what is reached from the root of a volume: a path, the kind, and the sum
 abbrev pub IsVolumeRow : Maps → List (List ℕ) → Kind → Sum → Type 0
-IsVolumeRow m path kind sum = (o : Object) × StandsAt m 0 path o × (kind ≡ o.kind) × (sum ≡ hash_shown o.kind o.sum)
-  where
-    hash_shown : Kind → Sum → Sum
-    hash_shown File found = found
-    hash_shown Directory found = no_sum
+IsVolumeRow m path kind sum = (o : Object) × StandsAt m 0 path o × (kind ≡ o.kind) × (sum ≡ hash_of o)

@@ -1,5 +1,5 @@
 -- What holds of every run.
-use Rattle.std.specs.Prelude.{◌≡◌, ◌≢◌, ◌↔◌, ◌<◌, ◌≤◌, ◌-◌, ◌+◌, ℕ, true, false, All, List, Option, Some, length, sum_by}
+use Rattle.std.specs.Prelude.{◌≡◌, ◌≢◌, ◌↔◌, ◌<◌, ◌≤◌, ◌-◌, ◌+◌, ℕ, true, false, All, List, [], Option, Some, length, sum_by}
 use Rattle.frs_base.specs.Options.{In}
 use Rattle.frs_base.specs.declared.kind.Kind.{Kind}
 use Rattle.frs_base.specs.declared.kind.Kind.TheVariants.{File}
@@ -15,7 +15,7 @@ use Rattle.vol_state.specs.Tables.{IsAt, IsReplica}
 use Rattle.record_db.specs.Records.{Versions, Covered, IsHeld, IsHeldOrBeaten, IsRecord}
 use Rattle.name_rules.specs.Tree.{IsRow, IsVolumeRow, kind_of}
 use Rattle.name_rules.specs.Next.{IsCandidate, IsDrained, IsDue, IsPending, IsQuiet, IsStepOf, IsTurn, Step as InstallStep, content_sum}
-use Rattle.world_model.specs.World.{Member, World, SentVector, IsConsumed, IsRecordOf, fresh_world}
+use Rattle.world_model.specs.World.{Member, World, SentVector, IsConsumed, IsRecordOf, fresh_member, fresh_world}
 use Rattle.world_model.specs.Events.{Event, Step, Adopt, Install, Unstage, IsAllHeld}
 use Rattle.world_model.specs.Runs.{CoversAlike, Grows, Happening, Run}
 use Rattle.world_model.specs.Invariant.{Invariant, SentIsKnown, VersionsAreMade}
@@ -141,6 +141,10 @@ pub record IsFitToAdopt (w : World) (d : ℕ) (u : Update) : Type 0 where
 -- so is each in a run
 abbrev pub AdoptionsAreFit : Type 0
 AdoptionsAreFit = (w : World) (d : ℕ) (u : Update) (new : World) → Invariant w → Step w d (Adopt u) new → IsFitToAdopt w d u
+
+-- a member alone that has done nothing is sound
+abbrev pub FoldersBeginSound : Type 0
+FoldersBeginSound = (own : ℕ) (kind : MemberKind) → FolderIsSound own (fresh_member kind) []
 
 -- a member alone stays sound, whatever its partners send
 abbrev pub AllFoldersStaySound : Type 0

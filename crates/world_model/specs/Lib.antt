@@ -7,3 +7,4 @@ pub mod Rounds
 pub mod Lives
 pub mod Due
 pub mod Laws
+pub mod Examples

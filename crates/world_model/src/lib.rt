@@ -1,3 +1,13 @@
 //! The world of a replicated folder: its members, what an event at one of them changes, and what
 //! holds after every run of events.
 #![tactic(auto)]
+
+mod laws;
+
+pub use laws::{
+    adoptions_are_fit, all_is_counted, cover_is_stable, drained_volumes_are_trees,
+    equal_vectors_have_equal_records, equal_vectors_have_equal_trees, events_keep_the_invariant,
+    finished_rounds_are_held, flights_can_land, folders_begin_sound, folders_stay_sound,
+    fresh_worlds_are_sound, lives_are_sound, pending_objects_stay, rounds_stay_true,
+    runs_keep_the_invariant, what_is_covered_is_held, what_is_sent_stays_covered,
+};
