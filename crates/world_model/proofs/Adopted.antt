@@ -85,7 +85,8 @@ same_sound Known Records KnownAfter RecordsAfter own x same s kinds = record {
     more id (r, k, q) = (r, same.to r k, q)
 
 -- what a member knows plays no part
-pub known_sound : (Known Records : Update → Type 0) (own : ℕ) (x : Member) (known : Versions) (phase : Phase) → MemberIsSound Known Records own x → MemberIsSound Known Records own (record x { known = known; phase = phase })
+pub known_sound : (Known Records : Update → Type 0) (own : ℕ) (x : Member) (known : Versions) (phase : Phase) → MemberIsSound Known Records own x
+    → MemberIsSound Known Records own (record x { known = known; phase = phase })
 known_sound Known Records own x known phase s = record {
   places = s.places;
   numbers = s.numbers;
@@ -95,7 +96,8 @@ known_sound Known Records own x known phase s = record {
 }
 
 -- so does unstaging what the object has
-pub unstage_sound : (Known Records : Update → Type 0) (own : ℕ) (x : Member) (id : Uid) (f : ℕ) (o : Object) → MemberIsSound Known Records own x → x.volume.at f ≡ Some o → uid_of own o ≡ id → x.staged id ≡ Some o.sum
+pub unstage_sound : (Known Records : Update → Type 0) (own : ℕ) (x : Member) (id : Uid) (f : ℕ) (o : Object) → MemberIsSound Known Records own x → x.volume.at f ≡ Some o
+    → uid_of own o ≡ id → x.staged id ≡ Some o.sum
     → MemberIsSound Known Records own (unstaged_at id x)
 unstage_sound Known Records own x id f o s at uid staged = record {
   places = s.places;

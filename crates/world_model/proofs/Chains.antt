@@ -16,9 +16,11 @@ use Rattle.world_model.proofs.Writing.{wrote}
 
 -- ---- a written volume
 
+-- the object that was written
 pub there : (m : Maps) (f : ℕ) (o : Option Object) (e : VolRecord) → (wrote m f o e).at f ≡ o
 there m f o e = at_same m.at f o
 
+-- another object
 pub beside : (m : Maps) (f : ℕ) (o : Option Object) (e : VolRecord) (g : ℕ) (x : Option Object) → g ≢ f → m.at g ≡ x → (wrote m f o e).at g ≡ x
 beside m f o e g x n h = at_other m.at f o g n ∙ h
 
@@ -26,6 +28,7 @@ beside m f o e g x n h = at_other m.at f o g n ∙ h
 abbrev pub KeepsPlaces : Maps → Maps → Type 0
 KeepsPlaces m new = (g : ℕ) (x : Object) → m.at g ≡ Some x → (y : Object) × (new.at g ≡ Some y) × (y.place ≡ x.place)
 
+-- where objects keep their places, each chain stays
 pub leads_kept : (limbo : Bool) (m new : Maps) → KeepsPlaces m new → (n g : ℕ) → LeadsBy limbo m n g → LeadsBy limbo new n g
 leads_kept limbo m new k zero g h = h
 leads_kept limbo m new k (suc n) g (inl e) = inl e
@@ -61,25 +64,30 @@ leads_without limbo m f o e b (suc n) g d (inr (x, at, inl l)) = inr (x, beside 
 leads_without limbo m f o e b (suc n) g d (inr (x, at, inr (p, s, h))) =
     inr (x, beside m f o e g (Some x) d at, inr (p, s, leads_without limbo m f o e b n p.0 (b g x p at s) h))
 
+-- so it is where the written object keeps its own
 pub written_keeps : (m : Maps) (f : ℕ) (x : Object) (e : VolRecord) → ((old : Object) → m.at f ≡ Some old → x.place ≡ old.place) → KeepsPlaces m (wrote m f (Some x) e)
 written_keeps m f x e same g y at = elim (cases_eq g f) [
   | inl s ↦ (x, subst (λ i. (wrote m f (Some x) e).at i ≡ Some x) (sym s) (there m f (Some x) e), same y (subst (λ i. m.at i ≡ Some y) s at))
   | inr d ↦ (y, beside m f (Some x) e g (Some y) d at, refl)
 ]
 
-pub directory_kept : (m : Maps) (f : ℕ) (x : Object) (e : VolRecord) → ((old : Object) → m.at f ≡ Some old → x.kind ≡ old.kind) → (h : ℕ) → IsDirectory m h → IsDirectory (wrote m f (Some x) e) h
+-- a directory stays one where the object is written with its kind
+pub directory_kept : (m : Maps) (f : ℕ) (x : Object) (e : VolRecord) → ((old : Object) → m.at f ≡ Some old → x.kind ≡ old.kind) → (h : ℕ) → IsDirectory m h
+    → IsDirectory (wrote m f (Some x) e) h
 directory_kept m f x e same h (inl z) = inl z
 directory_kept m f x e same h (inr (y, at, d)) = elim (cases_eq h f) [
   | inl s ↦ inr (x, subst (λ i. (wrote m f (Some x) e).at i ≡ Some x) (sym s) (there m f (Some x) e), ap is_directory (same y (subst (λ i. m.at i ≡ Some y) s at)) ∙ d)
   | inr n ↦ inr (y, beside m f (Some x) e h (Some y) n at, d)
 ]
 
+-- so does one that isn't the object
 pub directory_without : (m : Maps) (f : ℕ) (o : Option Object) (e : VolRecord) (h : ℕ) → h ≢ f → IsDirectory m h → IsDirectory (wrote m f o e) h
 directory_without m f o e h n (inl z) = inl z
 directory_without m f o e h n (inr (y, at, d)) = inr (y, beside m f o e h (Some y) n at, d)
 
 -- ---- the tree of places
 
+-- places are a tree after a write, by what holds of the written object
 pub tree_written : (own : ℕ) (m : Maps) (f : ℕ) (o : Option Object) (e : VolRecord) → PlacesAreATree own m
     → ((g : ℕ) (x : Object) → (wrote m f o e).at g ≡ Some x → Leads true (wrote m f o e) g)
     → ((x : Object) (p : ℕ × List ℕ) → o ≡ Some x → x.place ≡ Some p → IsFree m f p.0 p.1 × IsDirectory (wrote m f o e) p.0)
@@ -107,6 +115,7 @@ tree_written own m f o e t leads place uid dirs = record {
       (λ n xo. dirs g x p n xo c);
 }
 
+-- numbers stay fresh after a write
 pub numbers_written : (m : Maps) (c f : ℕ) (o : Option Object) (e : VolRecord) → NumbersAreFresh m c → f ≢ 0 → e.fid ≡ f
     → ((x : Object) → o ≡ Some x → (x.born ≤ m.next_usn) × (x.last_local ≤ m.next_usn) × (x.tag ≡ None → x.born ≤ x.last_local)) → NumbersAreFresh (wrote m f o e) c
 numbers_written m c f o e h root fid new = record {
@@ -125,6 +134,7 @@ numbers_written m c f o e h root fid new = record {
 
 -- ---- the journal, after a local operation that leaves the object, and after one that takes it away
 
+-- the journal stays true after a local operation that leaves the object
 pub journal_wrote : (own : ℕ) (m : Maps) (c f : ℕ) (x : Object) (e : VolRecord) → NumbersAreFresh m c → JournalIsTrue own m c
     → e.local ≡ true → is_deletion e ≡ false → e.fid ≡ f → e.uid ≡ uid_of own x → x.last_local ≡ m.next_usn
     → ((g : ℕ) (y : Object) → g ≢ f → m.at g ≡ Some y → uid_of own y ≢ uid_of own x)
@@ -157,6 +167,7 @@ journal_wrote own m c f x e h j local keeps fid uid last others earlier = record
       (w, z, less, at_other m.entry m.next_usn (Some e) w (λ s. omega (arith, s, u)) ∙ at, r1, r2)));
 }
 
+-- and after one that takes it away
 pub journal_removed : (own : ℕ) (m : Maps) (c f : ℕ) (x : Object) (e : VolRecord) → NumbersAreFresh m c → JournalIsTrue own m c → m.at f ≡ Some x
     → e.local ≡ true → is_deletion e ≡ true → e.fid ≡ f → e.uid ≡ uid_of own x
     → ((g : ℕ) (y : Object) → g ≢ f → m.at g ≡ Some y → uid_of own y ≢ uid_of own x)

@@ -41,6 +41,7 @@ NoUpdate local deletion held found n =
     ⊎ (((deletion ≡ false) × ((o : Object) × (found ≡ Some o) × (ltb n o.last_local ≡ true)))
     ⊎ ((o : Object) × (found ≡ Some o) × (o.place ≡ None)))))
 
+-- why a record makes none
 pub none_by : (own : ℕ) (m : Maps) (base n moment : ℕ) (local deletion : Bool) (held : Option Update) (found : Option Object)
     → None ≡ recorded_by own m base n moment local deletion held found → NoUpdate local deletion held found n
 none_by own m base n moment false deletion held found e = inl refl
@@ -64,7 +65,8 @@ if_false false x y e = refl
 if_false true x y e = absurd (true_false true refl e)
 
 -- of an object that is placed, with no later local record, an operation that is no deletion makes an update
-recorded_written : (own : ℕ) (m : Maps) (base n moment : ℕ) (e : VolRecord) (held : Option Update) (o : Object) (p : ℕ × List ℕ) → e.local ≡ true → is_deletion e ≡ false → m.at e.fid ≡ Some o
+recorded_written : (own : ℕ) (m : Maps) (base n moment : ℕ) (e : VolRecord) (held : Option Update) (o : Object) (p : ℕ × List ℕ) → e.local ≡ true → is_deletion e ≡ false
+    → m.at e.fid ≡ Some o
     → ltb n o.last_local ≡ false → o.place ≡ Some p → recorded_of own m base n moment e held ≡ Some (object_update own m base n moment held o p)
 recorded_written own m base n moment e held o p local deletion at newest place =
     (λ i. recorded_by own m base n moment (local i) (deletion i) held (at i))
@@ -80,17 +82,19 @@ placed m f o root at (suc n, inr (y, at', inr (p, e, h))) = (p, ap (λ z. z.plac
 
 -- ---- pending records
 
+-- what is pending after was pending before
 pub pending_back : (x : Member) (id : Uid) → IsPending (x.consumed + 1) x.volume id → IsPending x.consumed x.volume id
 pending_back x id (n, d, l, at, t, s) = (n, d, omega (arith, l), at, t, s)
 
-pub pending_step : (x : Member) (e : VolRecord) (id : Uid) → x.volume.entry x.consumed ≡ Some e → IsPending x.consumed x.volume id → IsPending (x.consumed + 1) x.volume id ⊎ ((e.local ≡ true) × (e.uid ≡ id))
+-- what was pending is pending after, or was of the consumed record
+pub pending_step : (x : Member) (e : VolRecord) (id : Uid) → x.volume.entry x.consumed ≡ Some e → IsPending x.consumed x.volume id
+    → IsPending (x.consumed + 1) x.volume id ⊎ ((e.local ≡ true) × (e.uid ≡ id))
 pending_step x e id at (n, d, l, q, t, s) = elim (cases_eq n x.consumed) [
   | inl k ↦ let same : d ≡ e = some_is d e (sym q ∙ subst (λ i. x.volume.entry i ≡ Some e) (sym k) at) in inr (ap (λ z. z.local) (sym same) ∙ t, ap (λ z. z.uid) (sym same) ∙ s)
   | inr k ↦ inl (n, d, omega (arith, l, k), q, t, s)
 ]
 
--- a pending object of the consumed record's file is pending still, or was recorded
-
+-- the record of a file among these, or that there is none
 abbrev pub Held : (Update → Type 0) → Uid → Option Update → Type 0
 Held Records id held = MatchOption held ((v : Update) → Records v → v.uid ≢ id) (λ r. Records r × (r.uid ≡ id))
 
@@ -100,6 +104,7 @@ pub record PutsTo (Records RecordsAfter : Update → Type 0) (u : Update) : Type
   pub old : (v : Update) → Records v → v.uid ≢ u.uid → RecordsAfter v
   pub only : (v : Update) → RecordsAfter v → (v ≡ u) ⊎ (Records v × (v.uid ≢ u.uid))
 
+-- an update is of its journal record's file
 pub made_uid_of : (own : ℕ) (m : Maps) (base n moment : ℕ) (e : VolRecord) (Records : Update → Type 0) (held : Option Update) (u : Update)
     → ((o : Object) → e.local ≡ true → m.at e.fid ≡ Some o → uid_of own o ≡ e.uid) → Held Records e.uid held → Some u ≡ recorded_of own m base n moment e held → u.uid ≡ e.uid
 made_uid_of own m base n moment e Records held u named h is = let (l, cases) = made_by own m base n moment e.local (is_deletion e) held (m.at e.fid) u is in elim cases [
@@ -107,6 +112,7 @@ made_uid_of own m base n moment e Records held u named h is = let (l, cases) = m
   | inr w ↦ ap (λ x. x.uid) w.is ∙ named w.now l w.there
 ]
 
+-- an object of the consumed record's file is pending still, or recorded
 pub object_step : (Known Records : Update → Type 0) (own base moment : ℕ) (x : Member) (e : VolRecord) (held : Option Update) (f : ℕ) (o : Object) → MemberIsSound Known Records own x
     → x.volume.entry x.consumed ≡ Some e → e.local ≡ true → x.volume.at f ≡ Some o → uid_of own o ≡ e.uid
     → IsPending (x.consumed + 1) x.volume (uid_of own o) ⊎ ((p : ℕ × List ℕ) × (recorded_of own x.volume base x.consumed moment e held ≡ Some (object_update own x.volume base x.consumed moment held o p)))
@@ -144,7 +150,8 @@ kind_kept own m base n moment held o p = go o.kind
     go Directory = refl
 
 -- the update has the kind of the object of its file
-pub made_kind : (own : ℕ) (base moment : ℕ) (Known Records : Update → Type 0) (x : Member) (e : VolRecord) (held : Option Update) (u : Update) (kind : Kind) → ((v : Update) → Records v → Known v) → Held Records e.uid held
+pub made_kind : (own : ℕ) (base moment : ℕ) (Known Records : Update → Type 0) (x : Member) (e : VolRecord) (held : Option Update) (u : Update) (kind : Kind)
+    → ((v : Update) → Records v → Known v) → Held Records e.uid held
     → Some u ≡ recorded_of own x.volume base x.consumed moment e held
     → ((h : Update) → Known h → h.uid ≡ u.uid → kind_of h ≡ kind)
     → ((w : Object) → x.volume.at e.fid ≡ Some w → uid_of own w ≡ u.uid → w.kind ≡ kind) → kind_of u ≡ kind
@@ -168,8 +175,10 @@ file_sum u Directory sum i k h = absurd (go u.present (is_directory u) k i)
     go false d k i = true_false false i refl
 
 -- a member stays sound where the record makes an update
-pub consume_some : (Known Records KnownAfter RecordsAfter : Update → Type 0) (own base moment : ℕ) (x : Member) (u : Update) (e : VolRecord) (held : Option Update) → ((v : Update) → Records v → Known v) → PutsTo Records RecordsAfter u → ((v : Update) → KnownAfter v → Known v ⊎ (v ≡ u))
-    → MemberIsSound Known Records own x → x.volume.entry x.consumed ≡ Some e → Held Records e.uid held → Some u ≡ recorded_of own x.volume base x.consumed moment e held → MemberIsSound KnownAfter RecordsAfter own (consumed_by own (Some u) x)
+pub consume_some : (Known Records KnownAfter RecordsAfter : Update → Type 0) (own base moment : ℕ) (x : Member) (u : Update) (e : VolRecord) (held : Option Update)
+    → ((v : Update) → Records v → Known v) → PutsTo Records RecordsAfter u → ((v : Update) → KnownAfter v → Known v ⊎ (v ≡ u))
+    → MemberIsSound Known Records own x → x.volume.entry x.consumed ≡ Some e → Held Records e.uid held → Some u ≡ recorded_of own x.volume base x.consumed moment e held
+    → MemberIsSound KnownAfter RecordsAfter own (consumed_by own (Some u) x)
 consume_some Known Records KnownAfter RecordsAfter own base moment x u e held inside puts only s at is_held is = record {
   places = s.places;
   numbers = weaker_numbers x.volume x.consumed s.numbers (s.numbers.entries x.consumed e at);
@@ -232,8 +241,10 @@ consume_some Known Records KnownAfter RecordsAfter own base moment x u e held in
 -- ---- a record that makes none
 
 -- a member stays sound where it makes none
-pub consume_nothing : (Known Records KnownAfter RecordsAfter : Update → Type 0) (own base moment : ℕ) (x : Member) (e : VolRecord) (held : Option Update) → ((u v : Update) → Records u → Records v → u.uid ≡ v.uid → u ≡ v) → AreSame Records RecordsAfter → ((v : Update) → KnownAfter v → Known v)
-    → MemberIsSound Known Records own x → x.volume.entry x.consumed ≡ Some e → Held Records e.uid held → None ≡ recorded_of own x.volume base x.consumed moment e held → MemberIsSound KnownAfter RecordsAfter own (consumed_by own None x)
+pub consume_nothing : (Known Records KnownAfter RecordsAfter : Update → Type 0) (own base moment : ℕ) (x : Member) (e : VolRecord) (held : Option Update)
+    → ((u v : Update) → Records u → Records v → u.uid ≡ v.uid → u ≡ v) → AreSame Records RecordsAfter → ((v : Update) → KnownAfter v → Known v)
+    → MemberIsSound Known Records own x → x.volume.entry x.consumed ≡ Some e → Held Records e.uid held → None ≡ recorded_of own x.volume base x.consumed moment e held
+    → MemberIsSound KnownAfter RecordsAfter own (consumed_by own None x)
 consume_nothing Known Records KnownAfter RecordsAfter own base moment x e held one same only s at is_held is = record {
   places = s.places;
   numbers = weaker_numbers x.volume x.consumed s.numbers (s.numbers.entries x.consumed e at);

@@ -32,9 +32,11 @@ use Rattle.world_model.proofs.Consumed.{PutsTo, consume_nothing, consume_some}
 use Rattle.world_model.proofs.Adopted.{adopt_sound, known_sound, same_sound, unstage_sound}
 use Rattle.world_model.proofs.Fresh.{fresh_sound}
 
+-- putting an update in a list puts it among its records
 puts_list : (u : Update) (records : List Update) → IsRising records → PutsTo (λ v. In v records) (λ v. In v (put_record u records)) u
 puts_list u records up = record { new = put_in u records; old = λ v h n. put_keeps u v records h n; only = λ v h. in_put u v records up h }
 
+-- a list in order has one record of a file
 one_of : (records : List Update) → IsRising records → (u v : Update) → In u records → In v records → u.uid ≡ v.uid → u ≡ v
 one_of [] up u v a b s = absurd a
 one_of (r ∷ rs) up u v (inl a) (inl b) s = a ∙ sym b
@@ -42,11 +44,13 @@ one_of (r ∷ rs) up u v (inl a) (inr b) s = absurd (uid_apart r.uid v.uid (abov
 one_of (r ∷ rs) up u v (inr a) (inl b) s = absurd (uid_apart r.uid u.uid (above r u rs up.0 a) (ap (λ z. z.uid) (sym b) ∙ sym s))
 one_of (r ∷ rs) up u v (inr a) (inr b) s = one_of rs up.1 u v a b s
 
+-- what isn't below is at or above
 late : (n l : ℕ) → ltb n l ≡ false → l ≤ n
 late n l k = grind (arith, nat_tests)
 
 -- the update's file is the held record's, or an object's
-consumed_uid : (own : ℕ) (x : Member) (records : List Update) (moment : ℕ) (e : VolRecord) (held : Option Update) (u : Update) (P : Uid → Type 0) → FolderIsSound own x records → x.volume.entry x.consumed ≡ Some e → IsFound records e.uid held
+consumed_uid : (own : ℕ) (x : Member) (records : List Update) (moment : ℕ) (e : VolRecord) (held : Option Update) (u : Update) (P : Uid → Type 0) → FolderIsSound own x records
+    → x.volume.entry x.consumed ≡ Some e → IsFound records e.uid held
     → Some u ≡ recorded_of own x.volume (base_fence x.phase x.kind) x.consumed moment e held
     → ((r : Update) → In r records → P r.uid) → ((y : Object) → x.volume.at e.fid ≡ Some y → y.last_local ≤ x.consumed → P (uid_of own y)) → P u.uid
 consumed_uid own x records moment e held u P h at found is of_record of_object = elim (made_by own x.volume (base_fence x.phase x.kind) x.consumed moment e.local (is_deletion e) held (x.volume.at e.fid) u is).1 [
@@ -78,7 +82,8 @@ one_more own x records u up h new a b p q s = by (in_put u a records up p) (in_p
     by (inr e) (inr f) = h.one_each a b e.0 f.0 s
 
 -- an update of a version that wasn't covered is put
-versions_put : (own : ℕ) (x y : Member) (records : List Update) (u : Update) → IsRising records → x.consumed ≤ y.consumed → ((g : Gvsn) → x.known g ≡ true → y.known g ≡ true) → y.known u.gvsn ≡ true
+versions_put : (own : ℕ) (x y : Member) (records : List Update) (u : Update) → IsRising records → x.consumed ≤ y.consumed → ((g : Gvsn) → x.known g ≡ true → y.known g ≡ true)
+    → y.known u.gvsn ≡ true
     → ((g : Gvsn) → y.known g ≡ true → g.db ≡ own → g.version < y.consumed) → ((n : ℕ) → 9 ≤ n → n < y.consumed → y.known (record { db = own; version = n }) ≡ true)
     → x.known u.gvsn ≡ false → VersionsAreKept own x records → VersionsAreKept own y (put_record u records)
 versions_put own x y records u up later more here less whole new h = record {
@@ -97,7 +102,8 @@ next_new own x records h = by (x.known (record { db = own; version = x.consumed 
     by true e = let l = h.own_consumed _ e refl in absurd (omega (arith, l))
 
 -- a record consumed, its version is covered
-consumed_less : (own : ℕ) (x : Member) (made : Option Update) (records : List Update) → VersionsAreKept own x records → (g : Gvsn) → (consumed_by own made x).known g ≡ true → g.db ≡ own → g.version < x.consumed + 1
+consumed_less : (own : ℕ) (x : Member) (made : Option Update) (records : List Update) → VersionsAreKept own x records → (g : Gvsn) → (consumed_by own made x).known g ≡ true
+    → g.db ≡ own → g.version < x.consumed + 1
 consumed_less own x made records h g k e = elim (plus_cases x.known (record { db = own; version = x.consumed }) g k) [
   | inl s ↦ let v : g.version ≡ x.consumed = ap (λ z. z.version) s in omega (arith, v)
   | inr old ↦ let l = h.own_consumed g old e in omega (arith, l)
@@ -112,7 +118,9 @@ consumed_whole own x made records h n low high = elim (cases_eq n x.consumed) [
 
 -- ---- consuming
 
-folder_consumes : (own : ℕ) (x : Member) (records : List Update) → FolderIsSound own x records → (moment : ℕ) (e : VolRecord) (held made : Option Update) → x.volume.entry x.consumed ≡ Some e → IsFound records e.uid held
+-- consuming keeps a member alone sound
+folder_consumes : (own : ℕ) (x : Member) (records : List Update) → FolderIsSound own x records → (moment : ℕ) (e : VolRecord) (held made : Option Update)
+    → x.volume.entry x.consumed ≡ Some e → IsFound records e.uid held
     → made ≡ recorded_of own x.volume (base_fence x.phase x.kind) x.consumed moment e held → FolderIsSound own (consumed_by own made x) (put_any made records)
 folder_consumes own x records h moment e held None at found is = record {
   begun = let b = h.begun in omega (arith, b);
@@ -178,14 +186,17 @@ has_or_none (r ∷ rs) uid = by (uid_cases r.uid uid) (has_or_none rs uid)
     by (inr n) (inr never) = inr (λ v a s. elim a [ inl e ↦ n (ap (λ z. z.uid) (sym e) ∙ s) | inr b ↦ never v b s ])
 
 -- a fit update is of its object's kind
-object_fits : (own : ℕ) (x : Member) (records : List Update) (u : Update) → FolderIsSound own x records → IsFit own x records u → (fid : ℕ) (o : Object) → IsAt x.volume fid o → uid_of own o ≡ u.uid
+object_fits : (own : ℕ) (x : Member) (records : List Update) (u : Update) → FolderIsSound own x records → IsFit own x records u → (fid : ℕ) (o : Object) → IsAt x.volume fid o
+    → uid_of own o ≡ u.uid
     → kind_of u ≡ o.kind
 object_fits own x records u h fit fid o at s = elim (has_or_none records u.uid) [
   | inl r ↦ sym (fit.kinds r.0 r.1 r.2) ∙ h.member.objects.kinds fid o r.0 at r.1 (r.2 ∙ sym s)
   | inr never ↦ sym (fit.object_kind never fid o at s)
 ]
 
-folder_adopts : (own : ℕ) (x : Member) (records : List Update) → FolderIsSound own x records → (u : Update) → IsFit own x records u → FolderIsSound own (adopted_by u x) (put_record u records)
+-- so does a fit adoption
+folder_adopts : (own : ℕ) (x : Member) (records : List Update) → FolderIsSound own x records → (u : Update) → IsFit own x records u
+    → FolderIsSound own (adopted_by u x) (put_record u records)
 folder_adopts own x records h u fit = record {
   begun = h.begun;
   rising = put_rising u records h.rising;

@@ -35,14 +35,18 @@ file_present u e = go u.present e
     go true e = refl
     go false e = absurd (cc)
 
-quiet_now : (x : Member) (f : ℕ) (o : Option Object) (e : VolRecord) → IsQuiet x.consumed x.volume → e.local ≡ false → (n : ℕ) (d : VolRecord) → x.consumed ≤ n → (wrote x.volume f o e).entry n ≡ Some d → d.local ≡ true → ⊥
+-- it is quiet after a step of the installer
+quiet_now : (x : Member) (f : ℕ) (o : Option Object) (e : VolRecord) → IsQuiet x.consumed x.volume → e.local ≡ false → (n : ℕ) (d : VolRecord) → x.consumed ≤ n
+    → (wrote x.volume f o e).entry n ≡ Some d → d.local ≡ true → ⊥
 quiet_now x f o e quiet remote n d l at t = at_case ⊥ x.volume.entry x.volume.next_usn (Some e) n (Some d) at
     (λ k q. true_false d.local t (ap (λ z. z.local) (sym (some_is e d q)) ∙ remote))
     (λ k q. true_false d.local t (quiet n d l q))
 
+-- where the journal is quiet no file is pending
 pub no_pending : (x : Member) (id : Uid) → IsQuiet x.consumed x.volume → IsPending x.consumed x.volume id → ⊥
 no_pending x id quiet (n, d, l, at, t, s) = true_false d.local t (quiet n d l at)
 
+-- and no object's last local USN
 no_last : (own : ℕ) (x : Member) (f : ℕ) (o : Object) → IsQuiet x.consumed x.volume → JournalIsTrue own x.volume x.consumed → x.volume.at f ≡ Some o → x.consumed ≤ o.last_local → ⊥
 no_last own x f o quiet j at l = let (d, q, t, r2, r3, r4) = j.last f o at l in true_false d.local t (quiet o.last_local d l q)
 
@@ -94,7 +98,9 @@ wrote_quiet Known Records own x f y e quiet s remote fid apart tree small late h
       | inr n ↦ inr (inl (g, z, beside x.volume f (Some y) e g (Some z) n at, id, c))
     ]
 
-has_record : (Known Records : Update → Type 0) (own : ℕ) (x : Member) (f : ℕ) (o : Object) → IsQuiet x.consumed x.volume → MemberIsSound Known Records own x → x.volume.at f ≡ Some o → Has Records (uid_of own o)
+-- each object has a record then
+has_record : (Known Records : Update → Type 0) (own : ℕ) (x : Member) (f : ℕ) (o : Object) → IsQuiet x.consumed x.volume → MemberIsSound Known Records own x
+    → x.volume.at f ≡ Some o → Has Records (uid_of own o)
 has_record Known Records own x f o quiet s at = elim (s.objects.recorded f o at) [ inl p ↦ absurd (no_pending x (uid_of own o) quiet p) | inr r ↦ r ]
 
 -- an object is changed by a step of the installer
@@ -176,7 +182,8 @@ erases_sound Known Records own x f o r one quiet s at is_record uid absent bare 
 -- every step of the installer on the volume keeps a member sound
 pub replica_sound : (Known Records : Update → Type 0) (own : ℕ) (x : Member) (op : VolCmd) → ((u v : Update) → Records u → Records v → u.uid ≡ v.uid → u ≡ v) → 9 ≤ x.consumed
     → ((u : Update) → Records u → Known u) → ((u v : Update) → Known u → Known v → u.uid ≡ v.uid → kind_of u ≡ kind_of v)
-    → IsQuiet x.consumed x.volume → IsDue Records own x.volume x.staged op → IsReplica own x.volume op → MemberIsSound Known Records own x → MemberIsSound Known Records own (operated own op x)
+    → IsQuiet x.consumed x.volume → IsDue Records own x.volume x.staged op → IsReplica own x.volume op → MemberIsSound Known Records own x
+    → MemberIsSound Known Records own (operated own op x)
 replica_sound Known Records own x (Park fid) one begun inside kinds quiet due (o, at, placed) s =
     subst (λ v. MemberIsSound Known Records own (with_volume x v)) (sym (changes_is own 6 false fid (at_place None) x.volume o at))
     (changes_sound Known Records own x 6 fid o (stamp false x.volume.next_usn (at_place None o)) quiet s at refl refl refl refl (tree_park own x.volume fid o _ _ s.places at refl refl refl) (λ u q i id c. c))

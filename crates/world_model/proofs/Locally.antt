@@ -30,6 +30,7 @@ use Rattle.world_model.proofs.Writes.{tree_gone, tree_keep, tree_move, tree_new}
 
 -- ---- numbers that are new
 
+-- no object has the next number
 pub fid_is_new : (m : Maps) (c : ℕ) → NumbersAreFresh m c → m.at m.next_fid ≡ None
 fid_is_new m c h = go (m.at m.next_fid) refl
   where
@@ -37,6 +38,7 @@ fid_is_new m c h = go (m.at m.next_fid) refl
     go None e = refl
     go (Some o) e = let l = h.fids m.next_fid o e in absurd (omega (arith, l))
 
+-- nor the UID that an object with it gets
 pub uid_is_new : (own : ℕ) (m : Maps) (c : ℕ) → NumbersAreFresh m c
     → ((f : ℕ) (o : Object) (t : Uid) → m.at f ≡ Some o → o.tag ≡ Some t → t.db ≡ own → t.version < c)
     → (g : ℕ) (y : Object) → m.at g ≡ Some y → uid_of own y ≢ record { db = own; version = m.next_usn }
@@ -50,17 +52,22 @@ uid_is_new own m c h tags g y at = go y.tag refl
         let w = h.consumed_is in
         omega (arith, l, w, same)
 
+-- the member with another volume
 abbrev pub with_volume : Member → Maps → Member
 with_volume x m = record x { volume = m }
 
 -- ---- pending records
 
-pub pending_kept : (x : Member) (f : ℕ) (o : Option Object) (e : VolRecord) (id : Uid) → NumbersAreFresh x.volume x.consumed → IsPending x.consumed x.volume id → IsPending x.consumed (wrote x.volume f o e) id
+-- what is pending stays so after a write
+pub pending_kept : (x : Member) (f : ℕ) (o : Option Object) (e : VolRecord) (id : Uid) → NumbersAreFresh x.volume x.consumed → IsPending x.consumed x.volume id
+    → IsPending x.consumed (wrote x.volume f o e) id
 pending_kept x f o e id h (n, d, l, at, local, s) = let u = h.entries n d at in (n, d, l, at_other x.volume.entry x.volume.next_usn (Some e) n (λ k. omega (arith, k, u)) ∙ at, local, s)
 
+-- the written object is pending after a local one
 pub pending_new : (x : Member) (f : ℕ) (o : Option Object) (e : VolRecord) → NumbersAreFresh x.volume x.consumed → e.local ≡ true → IsPending x.consumed (wrote x.volume f o e) e.uid
 pending_new x f o e h local = (x.volume.next_usn, e, h.consumed_is, at_same x.volume.entry x.volume.next_usn (Some e), local, refl)
 
+-- and nothing else is
 pub pending_old : (x : Member) (f : ℕ) (o : Option Object) (e : VolRecord) (id : Uid) → IsPending x.consumed (wrote x.volume f o e) id → (e.uid ≡ id) ⊎ IsPending x.consumed x.volume id
 pending_old x f o e id (n, d, l, at, local, s) = at_case ((e.uid ≡ id) ⊎ IsPending x.consumed x.volume id) x.volume.entry x.volume.next_usn (Some e) n (Some d) at
     (λ k q. inl (ap (λ z. z.uid) (some_is e d q) ∙ s))
@@ -68,6 +75,7 @@ pending_old x f o e id (n, d, l, at, local, s) = at_case ((e.uid ≡ id) ⊎ IsP
 
 -- ---- objects
 
+-- objects and records after a local operation that leaves the object
 objects_wrote : (Known Records : Update → Type 0) (own : ℕ) (x : Member) (f : ℕ) (y : Object) (e : VolRecord) → NumbersAreFresh x.volume x.consumed → ObjectsHaveRecords Known Records own x
     → e.local ≡ true → e.uid ≡ uid_of own y
     → ((g : ℕ) (z : Object) → g ≢ f → x.volume.at g ≡ Some z → uid_of own z ≢ uid_of own y)
@@ -98,6 +106,7 @@ objects_wrote Known Records own x f y e h r local uid others reach here kinds ta
     new : Member
     new = with_volume x (wrote x.volume f (Some y) e)
 
+-- and after one that takes it away
 objects_removed : (Known Records : Update → Type 0) (own : ℕ) (x : Member) (f : ℕ) (o : Object) (e : VolRecord) → NumbersAreFresh x.volume x.consumed → ObjectsHaveRecords Known Records own x
     → x.volume.at f ≡ Some o → e.uid ≡ uid_of own o → PlacesAreATree own x.volume
     → ((g : ℕ) → g ≢ f → IsReached x.volume g → IsReached (wrote x.volume f None e) g)
@@ -117,6 +126,7 @@ objects_removed Known Records own x f o e h r at uid t reach = record {
     new : Member
     new = with_volume x (wrote x.volume f None e)
 
+-- the contents are there after a local operation
 contents_wrote : (Known Records : Update → Type 0) (own : ℕ) (x : Member) (f : ℕ) (o : Option Object) (e : VolRecord) → NumbersAreFresh x.volume x.consumed → ContentsAreKept Records own x
     → e.local ≡ true → ((y : Object) → x.volume.at f ≡ Some y → uid_of own y ≡ e.uid) → ContentsAreKept Records own (with_volume x (wrote x.volume f o e))
 contents_wrote Known Records own x f o e h k local uid = record { keeps = λ u r i. go u (k.keeps u r i); staged = k.staged }
@@ -134,6 +144,7 @@ contents_wrote Known Records own x f o e h k local uid = record { keeps = λ u r
 
 -- ---- each operation
 
+-- the root is no object
 pub not_zero : (m : Maps) (c f : ℕ) (o : Object) → NumbersAreFresh m c → m.at f ≡ Some o → f ≢ 0
 not_zero m c f o h at z = none_some o (sym h.root ∙ subst (λ i. m.at i ≡ Some o) z at)
 
@@ -143,7 +154,8 @@ others : {Known Records : Update → Type 0} (own : ℕ) (x : Member) (f : ℕ) 
 others own x f o s at g z n a k = n (s.places.uids g f z o a at k)
 
 -- a changed object is born as before, and the next USN is its last local one
-newest : {Known Records : Update → Type 0} (own : ℕ) (x : Member) (f : ℕ) (o y : Object) → MemberIsSound Known Records own x → IsAt x.volume f o → y.born ≡ o.born → y.last_local ≡ x.volume.next_usn → y.tag ≡ o.tag
+newest : {Known Records : Update → Type 0} (own : ℕ) (x : Member) (f : ℕ) (o y : Object) → MemberIsSound Known Records own x → IsAt x.volume f o → y.born ≡ o.born
+    → y.last_local ≡ x.volume.next_usn → y.tag ≡ o.tag
     → (q : Object) → Some y ≡ Some q → (q.born ≤ x.volume.next_usn) × (q.last_local ≤ x.volume.next_usn) × (q.tag ≡ None → q.born ≤ q.last_local)
 newest own x f o y s at born last tag q k =
     let l = s.numbers.born f o at in
@@ -151,7 +163,8 @@ newest own x f o y s at born last tag q k =
     (omega (arith, l, born), omega (arith, last), λ z. omega (arith, l, born, last))
 
 -- a file or directory is made in an open place
-makes_sound : (Known Records : Update → Type 0) (own : ℕ) (x : Member) (op : ℕ) (kind : Kind) (bytes : List ℕ) (p : ℕ × List ℕ) → (uid : Uid) → uid ≡ record { db = own; version = x.volume.next_usn }
+makes_sound : (Known Records : Update → Type 0) (own : ℕ) (x : Member) (op : ℕ) (kind : Kind) (bytes : List ℕ) (p : ℕ × List ℕ) → (uid : Uid)
+    → uid ≡ record { db = own; version = x.volume.next_usn }
     → is_deletion (logs x.volume x.volume.next_fid uid op true) ≡ false → 9 ≤ x.consumed → ((u : Update) → Records u → Known u)
     → ((u : Update) → Known u → u.uid.db ≡ own → u.uid.version < x.consumed) → MemberIsSound Known Records own x
     → IsDirectory x.volume p.0 → IsReached x.volume p.0 → IsFree x.volume x.volume.next_fid p.0 p.1
@@ -194,7 +207,8 @@ makes_sound Known Records own x op kind bytes p uid is keeps_it begun inside mad
     keeps = written_keeps m f y e (λ old b. absurd (none_some old (sym (fid_is_new m x.consumed s.numbers) ∙ b)))
 
 -- an object gets other contents
-overwrites_sound : (Known Records : Update → Type 0) (own : ℕ) (x : Member) (f : ℕ) (bytes : List ℕ) (o : Object) → MemberIsSound Known Records own x → IsAt x.volume f o → IsReached x.volume f
+overwrites_sound : (Known Records : Update → Type 0) (own : ℕ) (x : Member) (f : ℕ) (bytes : List ℕ) (o : Object) → MemberIsSound Known Records own x → IsAt x.volume f o
+    → IsReached x.volume f
     → MemberIsSound Known Records own (with_volume x (wrote x.volume f (Some (stamp true x.volume.next_usn (with_bytes bytes o))) (logs x.volume f (uid_of own o) 2 true)))
 overwrites_sound Known Records own x f bytes o s at reached = record {
   places = tree_keep own m f o y e s.places at refl refl refl;

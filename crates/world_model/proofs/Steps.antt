@@ -37,13 +37,16 @@ use Rattle.world_model.proofs.Consumed.{Held, PutsTo, consume_nothing, consume_s
 
 -- ---- the parts of a member, in the world
 
+-- an update that beats all of its file is put among the winners
 puts_of : {P Q : Update → Type 0} (u : Update) → Grown P Q u → PutsTo (IsWinner P) (IsWinner Q) u
 puts_of u g = record { new = best_new u g; old = λ v r n. best_old u v g r n; only = λ v r. best_put u v g r }
 
+-- the winner of a file among what is covered is its record
 held_of : (all : List Update) (known : Versions) (id : Uid) (o : Option Update) → IsHeld (Covered all known) id o → Held (IsRecord all known) id o
 held_of all known id None h = λ v r. h v r.among
 held_of all known id (Some r) h = h
 
+-- another member is sound where All grows by versions that it doesn't cover
 others_sound : (all more : List Update) (own : ℕ) (x : Member) → IsSound all own x
     → ((u : Update) → Covered all x.known u → Covered more x.known u) → ((u : Update) → Covered more x.known u → Covered all x.known u)
     → ((f : ℕ) (o : Object) (u : Update) → x.volume.at f ≡ Some o → In u more → u.uid ≡ uid_of own o → kind_of u ≡ o.kind)
@@ -51,11 +54,13 @@ others_sound : (all more : List Update) (own : ℕ) (x : Member) → IsSound all
 others_sound all more own x s to back kinds =
     same_sound (λ u. In u all) (IsRecord all x.known) (λ u. In u more) (IsRecord more x.known) own x (record { to = λ v r. best_same v to back r; back = λ v r. best_same v back to r }) s kinds
 
+-- a member that adopts is sound
 adopts_sound : (w : World) (d : ℕ) (u : Update) → VersionsAreMade w → SentIsKnown w → IsSound w.all d (w.at d) → WasSent w u → IsBetter (Covered w.all (w.at d).known) u
     → IsSound w.all d (adopted_by u (w.at d))
 adopts_sound w d u h k s sent better =
     adopt_sound (λ v. In v w.all) (IsRecord w.all (w.at d).known) (λ v. In v w.all) (IsRecord w.all (plus (w.at d).known u.gvsn)) d (w.at d) u (puts_of u (adopt_put w d u h k sent better)) s s.objects.kinds
 
+-- one that finishes is
 finish_sound : (w : World) (d : ℕ) (v : Versions) → VersionsAreMade w → IsSound w.all d (w.at d) → IsAllHeld w d v
     → IsSound w.all d (finished_by v (w.at d))
 finish_sound w d v h s held =
@@ -65,9 +70,11 @@ finish_sound w d v h s held =
 
 -- ---- the members of a world in which one changed
 
+-- all are, where the one that changed is
 members_sound : (w : World) (d : ℕ) (x : Member) → ((j : ℕ) → IsSound w.all j (w.at j)) → IsSound w.all d x → (j : ℕ) → IsSound w.all j (with_at w.at d x j)
 members_sound w d x old new = at_each (λ j y. IsSound w.all j y) w.at d x new (λ j n. old j)
 
+-- files stay sound where no more is consumed
 files_same : (w : World) (d : ℕ) (x : Member) → x.consumed ≡ (w.at d).consumed → FilesAreSound w.all (consumed_of w) → FilesAreSound w.all (consumed_of (with_member w d x))
 files_same w d x e f = record {
   kinds = f.kinds;
@@ -78,7 +85,8 @@ files_same w d x e f = record {
 -- ---- consume
 
 -- the update's file has one kind everywhere
-new_kind : (w : World) (d moment : ℕ) (u : Update) → Invariant w → Records w d moment (Some u) → (j : ℕ) → j ≢ d → (f : ℕ) (o : Object) → (w.at j).volume.at f ≡ Some o → u.uid ≡ uid_of j o → kind_of u ≡ o.kind
+new_kind : (w : World) (d moment : ℕ) (u : Update) → Invariant w → Records w d moment (Some u) → (j : ℕ) → j ≢ d → (f : ℕ) (o : Object) → (w.at j).volume.at f ≡ Some o
+    → u.uid ≡ uid_of j o → kind_of u ≡ o.kind
 new_kind w d moment u h (e, held, at, is_held, is) j apart f o here id =
     made_kind d (base_fence (w.at d).phase (w.at d).kind) moment (λ v. In v w.all) (IsRecord w.all (w.at d).known) (w.at d) e held u o.kind (λ v r. r.among.0) (held_of w.all (w.at d).known e.uid held is_held) is
     (λ g a k. (h.members j).objects.kinds f o g here a (k ∙ id))
@@ -98,7 +106,9 @@ new_kind w d moment u h (e, held, at, is_held, is) j apart f o here id =
         let is : d ≡ j = ap (λ z. z.db) (ap (λ z. unwrap_or z (record { db = d; version = y.born })) (sym a) ∙ (same ∙ ap (λ z. unwrap_or z (record { db = j; version = o.born })) b)) in
         absurd (apart (sym is))
 
-consume_members : (w : World) (d moment : ℕ) (made : Option Update) → Invariant w → Records w d moment made → (j : ℕ) → IsSound (w.all ++ option_to_list made) j (with_at w.at d (consumed_by d made (w.at d)) j)
+-- all members are sound after a record is consumed
+consume_members : (w : World) (d moment : ℕ) (made : Option Update) → Invariant w → Records w d moment made → (j : ℕ)
+    → IsSound (w.all ++ option_to_list made) j (with_at w.at d (consumed_by d made (w.at d)) j)
 consume_members w d moment made h r = at_each (λ j y. IsSound (w.all ++ option_to_list made) j y) w.at d (consumed_by d made (w.at d)) (mine made r) (λ j n. other made r j n)
   where
     mine : (made : Option Update) → Records w d moment made → IsSound (w.all ++ option_to_list made) d (consumed_by d made (w.at d))
@@ -126,9 +136,11 @@ consume_members w d moment made h r = at_each (λ j y. IsSound (w.all ++ option_
         kind (Some v) r f o u a k (inr (inr bad)) = absurd bad
         kind (Some v) r f o u a k (inr (inl same)) = ap kind_of same ∙ new_kind w d moment v h r j n f o a (ap (λ z. z.uid) (sym same) ∙ k)
 
+-- how far each member has consumed then
 abbrev pub more_consumed : World → ℕ → Option Update → ℕ → ℕ
 more_consumed w d made j = (with_at w.at d (consumed_by d made (w.at d)) j).consumed
 
+-- files are sound then
 consume_files : (w : World) (d moment : ℕ) (made : Option Update) → Invariant w → Records w d moment made → FilesAreSound (w.all ++ option_to_list made) (more_consumed w d made)
 consume_files w d moment made h r = record {
   kinds = λ u v a b k. kind u v (in_append u w.all (option_to_list made) a) (in_append v w.all (option_to_list made) b) k;
@@ -194,11 +206,13 @@ consume_files w d moment made h r = record {
     root (Some x) r u (inr a) k = a
     root (Some x) r u (inl a) k = facts x (λ z. ⊥) r (λ g b q s. h.files.no_root g b (q ∙ (ap (λ z. z.uid) (sym a) ∙ k))) (λ e y t q s l. (h.members d).objects.no_root e.fid y t (q ∙ (ap (λ z. z.uid) (sym a) ∙ k)))
 
+-- no fence is above 3
 base_small : (phase : Phase) (kind : MemberKind) → base_fence phase kind ≤ 3
 base_small Initial Primary = omega arith
 base_small Initial Plain = omega arith
 base_small Normal kind = omega arith
 
+-- fences and clocks are small then
 consume_clocks : (w : World) (d moment : ℕ) (made : Option Update) → Invariant w → moment < 2 ^ 61 → Records w d moment made → ClocksAreSmall (w.all ++ option_to_list made)
 consume_clocks w d moment None h early r = record {
   fences = λ u a. elim (in_append u w.all [] a) [ inl old ↦ h.clocks.fences u old | inr bad ↦ absurd bad ];
@@ -235,10 +249,13 @@ consume_clocks w d moment (Some x) h early (e, held, at, is_held, is) = record {
 
 -- ---- every event
 
+-- clocks are small where All is the same
 clocks_same : (w new : World) → w.all ≡ new.all → ClocksAreSmall w.all → ClocksAreSmall new.all
 clocks_same w new e c = subst ClocksAreSmall e c
 
-changed : (w : World) (d : ℕ) (x : Member) → Invariant w → x.consumed ≡ (w.at d).consumed → VersionsAreMade (with_member w d x) → SentIsKnown (with_member w d x) → IsSound w.all d x → Invariant (with_member w d x)
+-- a world in which one member changed keeps the invariant
+changed : (w : World) (d : ℕ) (x : Member) → Invariant w → x.consumed ≡ (w.at d).consumed → VersionsAreMade (with_member w d x) → SentIsKnown (with_member w d x)
+    → IsSound w.all d x → Invariant (with_member w d x)
 changed w d x h same made sent sound = record {
   versions = made;
   sent = sent;

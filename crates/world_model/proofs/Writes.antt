@@ -10,12 +10,14 @@ use Rattle.world_model.proofs.Facts.{at_case, none_some, some_is}
 use Rattle.world_model.proofs.Writing.{wrote}
 use Rattle.world_model.proofs.Chains.{KeepsPlaces, directory_kept, directory_without, leads_beside, leads_kept, leads_through, leads_without, there, tree_written, written_keeps}
 
+-- what leads to the root leads to the root or to limbo
 pub reached_leads : (m : Maps) (n f : ℕ) → LeadsBy false m n f → LeadsBy true m n f
 reached_leads m zero f h = h
 reached_leads m (suc n) f (inl z) = inl z
 reached_leads m (suc n) f (inr (x, at, inl (l, e))) = inr (x, at, inl (refl, e))
 reached_leads m (suc n) f (inr (x, at, inr (p, e, h))) = inr (x, at, inr (p, e, reached_leads m n p.0 h))
 
+-- so does each directory
 pub directory_leads : (own : ℕ) (m : Maps) (f : ℕ) → PlacesAreATree own m → IsDirectory m f → Leads true m f
 directory_leads own m f t (inl z) = (0, z)
 directory_leads own m f t (inr (o, at, d)) = t.leads f o at
@@ -39,7 +41,8 @@ tree_keep own m f o x e t at place directory uid = tree_written own m f (Some x)
     keeps = written_keeps m f x e (λ old a. place ∙ ap (λ z. z.place) (some_is o old (sym at ∙ a)))
 
 -- an object gets another place, or one at all
-pub tree_move : (own : ℕ) (m : Maps) (f : ℕ) (o x : Object) (p : ℕ × List ℕ) (e : VolRecord) → PlacesAreATree own m → m.at f ≡ Some o → x.place ≡ Some p → x.kind ≡ o.kind → uid_of own x ≡ uid_of own o
+pub tree_move : (own : ℕ) (m : Maps) (f : ℕ) (o x : Object) (p : ℕ × List ℕ) (e : VolRecord) → PlacesAreATree own m → m.at f ≡ Some o → x.place ≡ Some p → x.kind ≡ o.kind
+    → uid_of own x ≡ uid_of own o
     → IsDirectory m p.0 → (IsBeneath m f p.0 → ⊥) → IsFree m f p.0 p.1 → PlacesAreATree own (wrote m f (Some x) e)
 tree_move own m f o x p e t at place directory uid dir beneath free = tree_written own m f (Some x) e t
     (λ g y a. at_case (Leads true (wrote m f (Some x) e) g) m.at f (Some x) g (Some y) a
