@@ -1,7 +1,6 @@
 -- What a journal record was that made an update.
 use Rattle.std.proofs.Common.{◌≡◌, ◌⊎◌, ℕ, Bool, true, false, cond, ltb, List, Option, Some, None, refl, sym, inl, inr}
 use Rattle.std.specs.Prelude.{option_map}
-use Rattle.frs_base.specs.declared.version.Gvsn.{Gvsn}
 use Rattle.win_order.specs.declared.update.Update.{Update}
 use Rattle.vol_state.specs.declared.object.Object.{Object}
 use Rattle.vol_state.specs.declared.record.VolRecord.{VolRecord}

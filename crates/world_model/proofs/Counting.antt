@@ -1,11 +1,10 @@
 -- All has at most an update for each version that was consumed.
-use Rattle.std.proofs.Common.{◌≡◌, ◌⊎◌, ◌≤◌, ◌+◌, ◌-◌, ℕ, All, List, [], ◌∷◌, ◌++◌, length, sum_by, refl, sym, ap, ◌∙◌, subst, arith, inl, inr, Option, Some, None}
+use Rattle.std.proofs.Common.{◌≡◌, ◌⊎◌, ◌≤◌, ◌+◌, ◌-◌, ℕ, All, List, [], ◌∷◌, length, sum_by, sym, ap, subst, arith, inl, inr, Option, Some, None}
 use Rattle.std.specs.Prelude.{option_to_list}
 use Rattle.std.proofs.lemmas.List.Elements.{All-head, All-tail}
 use Rattle.std.proofs.lemmas.List.Sums.{sum_by-cons}
 use Rattle.std.proofs.Common.{length-append}
 use Rattle.frs_base.specs.Options.{In}
-use Rattle.win_order.specs.declared.update.Update.{Update}
 use Rattle.world_model.specs.World.{Member, World}
 use Rattle.world_model.specs.Events.{Event, Step, Local, Consume, SendVector, SendUpdate, Adopt, Finish, Install, Unstage, consumed_by}
 use Rattle.world_model.specs.Runs.{Grows, Happening, Run}

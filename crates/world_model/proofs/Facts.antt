@@ -1,5 +1,5 @@
 -- Small facts of options, tests and changed maps.
-use Rattle.std.proofs.Common.{◌≡◌, ◌≢◌, ℕ, Bool, true, false, sym, ◌∙◌, subst, inl, inr, Option, Some, None}
+use Rattle.std.proofs.Common.{◌≡◌, ◌≢◌, ℕ, Bool, true, false, sym, ◌∙◌, subst, inl, inr, Some, None}
 use Rattle.std.proofs.lemmas.Bool.{cases_eq}
 use Rattle.vol_state.specs.Maps.{with_at}
 use Rattle.world_model.proofs.Changing.{at_other, at_same}

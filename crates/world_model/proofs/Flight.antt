@@ -1,10 +1,8 @@
 -- An event that was in flight is still possible later, and what is adopted is fit.
 use Rattle.std.proofs.Common.{◌≡◌, ◌⊎◌, ◌<◌, ℕ, Bool, true, false, refl, sym, ap, ◌∙◌, subst, inl, inr, Option, Some, None}
-use Rattle.frs_base.specs.Options.{In}
 use Rattle.frs_base.specs.declared.version.Uid.{Uid}
 use Rattle.win_order.specs.declared.update.Update.{Update}
 use Rattle.win_order.specs.Order.{key_of}
-use Rattle.vol_state.specs.declared.object.Object.{Object}
 use Rattle.vol_state.specs.declared.record.VolRecord.{VolRecord}
 use Rattle.vol_state.specs.declared.command.VolCmd.{VolCmd}
 use Rattle.vol_state.specs.declared.command.VolCmd.TheVariants as cmd
@@ -13,14 +11,13 @@ use Rattle.record_db.specs.Records.{Covered, IsHeld, IsHeldOrBeaten, IsRecord, V
 use Rattle.record_db.proofs.Keys.{key_irrefl}
 use Rattle.record_db.proofs.Best.{beats_all}
 use Rattle.name_rules.specs.Recorded.{base_fence, recorded_of}
-use Rattle.name_rules.specs.Tree.{IsShown}
 use Rattle.name_rules.specs.Next.{IsDue, IsPending, IsQuiet}
 use Rattle.name_rules.proofs.Shown.{AreSame, same_back, shown_same}
-use Rattle.world_model.specs.World.{Member, World, with_uid}
+use Rattle.world_model.specs.World.{Member, World}
 use Rattle.world_model.specs.Events.{Event, IsOfFile, IsOfPage, Step, Local, Consume, SendVector, SendUpdate, Adopt, Finish, Install, Unstage, adopted_by, consumed_by, consumes, finished_by, operated, unstaged_at}
 use Rattle.world_model.specs.Invariant.{VersionsAreMade}
 use Rattle.world_model.specs.Runs.{CoversAlike, Grows}
-use Rattle.world_model.specs.Laws.{AdoptionsAreFit, IsFitToAdopt}
+use Rattle.world_model.specs.Laws.{AdoptionsAreFit}
 use Rattle.world_model.proofs.Changing.{at_same}
 use Rattle.world_model.proofs.Growth.{stays}
 use Rattle.world_model.proofs.Puts.{record_stayed, record_stays}

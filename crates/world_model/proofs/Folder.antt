@@ -13,7 +13,7 @@ use Rattle.vol_state.specs.declared.record.VolRecord.{VolRecord}
 use Rattle.vol_state.specs.State.{uid_of}
 use Rattle.vol_state.specs.Conditions.{root_uid}
 use Rattle.vol_state.specs.Tables.{IsAt}
-use Rattle.record_db.specs.Records.{IsRecord, Versions, both, plus}
+use Rattle.record_db.specs.Records.{IsRecord, both, plus}
 use Rattle.record_db.specs.Lists.{IsRising, put_any, put_record}
 use Rattle.record_db.proofs.Keys.{uid_apart, uid_cases}
 use Rattle.record_db.proofs.Sets.{both_cases, both_old, plus_cases, plus_new, plus_old}

@@ -19,5 +19,6 @@ pub mod Flight
 pub mod Lives
 pub mod Steps
 pub mod Counting
+pub mod Computed
 pub mod Examples
 pub mod Trees

@@ -1,12 +1,12 @@
 -- What lives keep.
-use Rattle.std.proofs.Common.{◌≡◌, ◌≢◌, ℕ, List, [], ◌∷◌, refl, sym, ap, ◌∙◌, subst, inl, inr, Option, Some, None}
+use Rattle.std.proofs.Common.{◌≡◌, ◌≢◌, ℕ, [], ◌∷◌, refl, sym, ap, ◌∙◌, subst, inl, inr, Option, Some, None}
 use Rattle.std.specs.Prelude.{MatchOption}
 use Rattle.vol_state.specs.Maps.{with_at}
 use Rattle.world_model.specs.World.{Member, World}
 use Rattle.world_model.specs.Events.{Event, Step, Local, Consume, SendVector, SendUpdate, Adopt, Finish, Install, Unstage}
 use Rattle.world_model.specs.Invariant.{Invariant}
 use Rattle.world_model.specs.Runs.{Grows}
-use Rattle.world_model.specs.Lives.{Act, Deed, FlightsAreKept, Happens, IsInFlight, Life, LifeRun, Lives, Does, Restarts, Stops}
+use Rattle.world_model.specs.Lives.{Act, FlightsAreKept, Happens, IsInFlight, Life, Lives, Does, Restarts, Stops}
 use Rattle.world_model.specs.Laws.{EventsKeepTheInvariant, FlightsCanLand, LivesAreSound}
 use Rattle.world_model.proofs.Changing.{at_other}
 use Rattle.world_model.proofs.Facts.{at_case, none_some, some_is}

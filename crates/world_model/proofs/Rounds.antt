@@ -1,5 +1,5 @@
 -- What a round keeps.
-use Rattle.std.proofs.Common.{◌≡◌, ◌⊎◌, ℕ, Bool, true, false, not, ◌&&◌, List, [], ◌∷◌, ◌++◌, refl, sym, ◌∙◌, subst, inl, inr, Option, Some, None}
+use Rattle.std.proofs.Common.{◌≡◌, ◌⊎◌, ℕ, Bool, true, false, not, ◌&&◌, List, [], ◌∷◌, refl, sym, ◌∙◌, subst, inl, inr, Option, Some, None}
 use Rattle.frs_base.specs.Options.{In}
 use Rattle.win_order.specs.declared.update.Update.{Update}
 use Rattle.record_db.specs.Records.{Covered, IsHeld, IsHeldOrBeaten, IsRecord}
@@ -11,7 +11,7 @@ use Rattle.world_model.specs.Events.{Step, Adopt, SendUpdate, adopted_by}
 use Rattle.world_model.specs.Invariant.{SentIsKnown, VersionsAreMade}
 use Rattle.world_model.specs.Runs.{CoversAlike, Grows}
 use Rattle.world_model.specs.Rounds.{Fetches, IsWanted, Pages, Polls, Round, RoundIsTrue, Treats, TreatsAll}
-use Rattle.world_model.specs.Laws.{FinishedRoundsAreHeld, RoundsAreTrue, RoundsStayTrue}
+use Rattle.world_model.specs.Laws.{FinishedRoundsAreHeld, RoundsStayTrue}
 use Rattle.world_model.proofs.Changing.{at_same}
 use Rattle.world_model.proofs.Facts.{true_false}
 use Rattle.world_model.proofs.Growth.{grows_refl, grows_trans, stays, step_grows}

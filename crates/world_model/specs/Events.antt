@@ -1,5 +1,5 @@
 -- What an event at one member changes, and when it may come.
-use Rattle.std.specs.Prelude.{◌≡◌, ◌⊎◌, ◌<◌, ◌+◌, ◌^◌, ℕ, List, ◌∷◌, ◌++◌, Option, Some, None, if◌then◌else◌, option_to_list}
+use Rattle.std.specs.Prelude.{◌≡◌, ◌⊎◌, ◌<◌, ◌+◌, ◌^◌, ℕ, ◌∷◌, ◌++◌, Option, Some, None, if◌then◌else◌, option_to_list}
 use Rattle.frs_base.specs.Options.{In}
 use Rattle.frs_base.specs.declared.kind.Phase.TheVariants.{Normal}
 use Rattle.frs_base.specs.declared.sum.Sum.{Sum}

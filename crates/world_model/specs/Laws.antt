@@ -1,5 +1,5 @@
 -- What holds of every run.
-use Rattle.std.specs.Prelude.{◌≡◌, ◌≢◌, ◌↔◌, ◌<◌, ◌≤◌, ◌-◌, ◌+◌, ℕ, true, false, All, List, [], Option, Some, length, sum_by}
+use Rattle.std.specs.Prelude.{◌≡◌, ◌≢◌, ◌↔◌, ◌<◌, ◌≤◌, ◌-◌, ℕ, true, false, All, List, [], Option, Some, length, sum_by}
 use Rattle.frs_base.specs.Options.{In}
 use Rattle.frs_base.specs.declared.kind.Kind.{Kind}
 use Rattle.frs_base.specs.declared.kind.Kind.TheVariants.{File}
@@ -11,18 +11,18 @@ use Rattle.win_order.specs.declared.update.Update.{Update}
 use Rattle.vol_state.specs.declared.object.Object.{Object}
 use Rattle.vol_state.specs.declared.command.VolCmd.{VolCmd}
 use Rattle.vol_state.specs.State.{uid_of}
-use Rattle.vol_state.specs.Tables.{IsAt, IsReplica}
-use Rattle.record_db.specs.Records.{Versions, Covered, IsHeld, IsHeldOrBeaten, IsRecord}
+use Rattle.vol_state.specs.Tables.{IsAt}
+use Rattle.record_db.specs.Records.{Versions, Covered, IsHeldOrBeaten}
 use Rattle.name_rules.specs.Tree.{IsRow, IsVolumeRow, kind_of}
-use Rattle.name_rules.specs.Next.{IsCandidate, IsDrained, IsDue, IsPending, IsQuiet, IsStepOf, IsTurn, Step as InstallStep, content_sum}
-use Rattle.world_model.specs.World.{Member, World, SentVector, IsConsumed, IsRecordOf, fresh_member, fresh_world}
+use Rattle.name_rules.specs.Next.{IsCandidate, IsDrained, IsPending, IsQuiet, IsStepOf, IsTurn, Step as InstallStep, content_sum}
+use Rattle.world_model.specs.World.{Member, World, SentVector, IsRecordOf, fresh_member, fresh_world}
 use Rattle.world_model.specs.Events.{Event, Step, Adopt, Install, Unstage, IsAllHeld}
 use Rattle.world_model.specs.Runs.{CoversAlike, Grows, Happening, Run}
 use Rattle.world_model.specs.Invariant.{Invariant, SentIsKnown, VersionsAreMade}
 use Rattle.world_model.specs.Folder.{FolderIsSound, FoldersStaySound}
 use Rattle.world_model.specs.Rounds.{GoesOn, MayFinish, Polls, Round, RoundIsTrue}
 use Rattle.world_model.specs.Due.{Lowers, Sees, View, due}
-use Rattle.world_model.specs.Lives.{Act, Deed, FlightsAreKept, Happens, IsInFlight, Life, LifeRun}
+use Rattle.world_model.specs.Lives.{Deed, FlightsAreKept, Happens, IsInFlight, Life, LifeRun}
 
 -- ---- the invariant
 

@@ -1,5 +1,5 @@
 -- The members of a folder, all that they ever recorded, and all that they ever sent.
-use Rattle.std.specs.Prelude.{◌≡◌, ◌<◌, ◌≤◌, ℕ, Bool, false, List, [], Option, None, if◌then◌else◌}
+use Rattle.std.specs.Prelude.{◌<◌, ◌≤◌, ℕ, false, List, [], Option, None, if◌then◌else◌}
 use Rattle.frs_base.specs.Versions.{same_uid}
 use Rattle.frs_base.specs.declared.kind.MemberKind.{MemberKind}
 use Rattle.frs_base.specs.declared.kind.Phase.{Phase}

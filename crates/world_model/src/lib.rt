@@ -3,6 +3,7 @@
 #![tactic(auto)]
 
 mod laws;
+mod small_worlds;
 
 pub use laws::{
     adoptions_are_fit, all_is_counted, cover_is_stable, drained_volumes_are_trees,
@@ -10,4 +11,7 @@ pub use laws::{
     finished_rounds_are_held, flights_can_land, folders_begin_sound, folders_stay_sound,
     fresh_worlds_are_sound, lives_are_sound, pending_objects_stay, rounds_stay_true,
     runs_keep_the_invariant, what_is_covered_is_held, what_is_sent_stays_covered,
+};
+pub use small_worlds::{
+    a_cycle_of_parents_is_hidden, a_tie_has_one_winner, superseded_is_adopted_and_finished,
 };
