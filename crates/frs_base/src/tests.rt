@@ -1,6 +1,6 @@
 use crate::{
-    Bytes, Guid, Gvsn, List, Name, NameError, Uid, connection_of, content_set, database_of,
-    replica_set,
+    Bytes, Guid, Gvsn, List, Name, NameError, ReservedVec, Uid, connection_of, content_set,
+    database_of, replica_set,
 };
 use std::alloc::Global;
 use std::process::Abort;
@@ -134,5 +134,22 @@ fn wrapped_vectors_come_back(rt: HostRuntime) -> Result<(), Fail> {
     let names = List::of(vec![in alloc; database_of(1), database_of(2)]?);
     assert!(rt; names != List::of(vec![in alloc; database_of(2), database_of(1)]?));
     assert_eq!(rt; names.into_vec().len(), 2);
+    Ok(())
+}
+
+#[test]
+fn reserved_values_stay_in_order(rt: HostRuntime) -> Result<(), Fail> {
+    let alloc = rt.alloc();
+    let mut values = ReservedVec::empty();
+    values.reserve_one(alloc)?;
+    values.push(7);
+    values.reserve_one(alloc)?;
+    values.insert(0, 5);
+    values.reserve_one(alloc)?;
+    values.insert(1, 6);
+    assert_eq!(rt; values.as_slice(), [5, 6, 7].as_slice());
+    values.set(2, 8);
+    assert_eq!(rt; values.remove(0), 5);
+    assert_eq!(rt; values.as_slice(), [6, 8].as_slice());
     Ok(())
 }

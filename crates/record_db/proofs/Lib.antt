@@ -2,3 +2,6 @@ pub mod Keys
 pub mod Sets
 pub mod Best
 pub mod Lists
+pub mod Places
+pub mod Kept
+pub mod Standing

@@ -55,3 +55,9 @@ in_before x (y ∷ xs) ys (inr h) = inr (in_before x xs ys h)
 pub in_after : {X : Type 0} (x : X) (xs ys : List X) → In x ys → In x (xs ++ ys)
 in_after x [] ys h = h
 in_after x (y ∷ xs) ys h = inr (in_after x xs ys h)
+
+-- ---- one set
+
+-- sets with the same versions are one set
+pub one_set : (s t : Versions) → ((g : Gvsn) → s g ≡ t g) → s ≡ t
+one_set s t same = λ i g. same g i

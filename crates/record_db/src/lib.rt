@@ -1,3 +1,19 @@
 //! The records of a member: of each file or directory the winner among all updates whose versions
 //! the member covers.
+//!
+//! Read [`Book`] first, then [`BookCmd`]: what is done to it. A change is made in two steps:
+//! [`Book::ready`] takes the memory that a command needs, and [`Book::take`] does it.
 #![tactic(auto)]
+
+mod book;
+mod command;
+mod laws;
+mod records;
+
+pub use book::Book;
+pub use command::{BookCmd, Ready};
+pub use laws::{
+    adopting_books_stand, books_find_winners, books_of_one_set_are_alike, finishing_books_stand,
+    fresh_books_stand, recording_books_stand, standing_books_stay,
+};
+pub use records::find_record;

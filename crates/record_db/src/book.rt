@@ -1,0 +1,128 @@
+// The book of a member.
+ghost use Rattle.std.specs.Prelude.{◌≡◌, ◌<◌, ◌≤◌, ◌^◌, IfErr, IfOk, OnErr, OnOk, Some, find, length, option_copied};
+ghost use Rattle.frs_base.specs.Versions.{same_uid};
+ghost use Rattle.record_db.specs.State.{IsBook, fresh_book};
+
+mod change;
+
+use crate::records::find_record;
+use frs_base::{Guid, MemberKind, Phase, ReservedVec, Uid};
+use std::alloc::{AllocError, Global};
+use std::marker::Model;
+use version_vector::Vector;
+use win_order::Update;
+
+/// The USN that a fresh member consumes first.
+const FIRST_USN: u64 = 9;
+
+/// What a member knows of its folder: of each file or directory the record that it holds, and the
+/// versions that it covers.
+///
+/// A contract sees its state, and for how many more records it has room.
+#[derive(Debug, Drop)]
+pub struct Book {
+    kind: MemberKind,
+    own: Guid,
+    set: Guid,
+    records: ReservedVec<Update>,
+    vector: Vector,
+    consumed: u64,
+    phase: Phase,
+}
+
+impl Model for Book {
+    ghost use Rattle.record_db.specs.State.{IsBook, Seen};
+
+    ghost Value = { Seen };
+
+    ghost view = { λ b. record { state = record { kind = b.kind; own = b.own; set = b.set; records = b.records.items; vector = b.vector; consumed = b.consumed; phase = b.phase }; room = b.records.room } };
+
+    ghost invariant = { λ b. IsBook (record { kind = b.kind; own = b.own; set = b.set; records = b.records.items; vector = b.vector; consumed = b.consumed; phase = b.phase }) };
+}
+
+impl Book {
+    /// A fresh book of a member of this kind, with this database, of this content set: no records,
+    /// no versions, the initial phase, and no memory taken.
+    pub fn new(kind: MemberKind, own: Guid, set: Guid) -> Book
+        ensures { result.state ≡ fresh_book kind own set }
+    {
+        Book {
+            kind,
+            own,
+            set,
+            records: ReservedVec::empty(),
+            vector: Vector::empty(),
+            consumed: FIRST_USN,
+            phase: Phase::Initial,
+        }
+    }
+
+    /// What the member is while it has finished no round.
+    pub fn kind(&self) -> MemberKind
+        ensures { result ≡ self.now.state.kind }
+    {
+        self.kind
+    }
+
+    /// The member's own database.
+    pub fn own(&self) -> Guid
+        ensures { result ≡ self.now.state.own }
+    {
+        self.own
+    }
+
+    /// The content set of the folder.
+    pub fn set(&self) -> Guid
+        ensures { result ≡ self.now.state.set }
+    {
+        self.set
+    }
+
+    /// The records, in order of their UIDs.
+    pub fn records(&self) -> &[Update]
+        ensures records { result.now ≡ self.now.state.records }
+        ensures book { IsBook self.now.state }
+    {
+        self.records.as_slice()
+    }
+
+    /// The versions that the member covers.
+    pub fn vector(&self) -> &Vector
+        ensures vector { result.now ≡ self.now.state.vector }
+        ensures book { IsBook self.now.state }
+    {
+        &self.vector
+    }
+
+    /// The USN of the journal record that is consumed next.
+    pub fn consumed(&self) -> u64
+        ensures { result ≡ self.now.state.consumed }
+    {
+        self.consumed
+    }
+
+    /// How far the member has come.
+    pub fn phase(&self) -> Phase
+        ensures { result ≡ self.now.state.phase }
+    {
+        self.phase
+    }
+
+    /// The record of a file or directory.
+    pub fn held(&self, uid: Uid) -> Option<&Update>
+        ensures { option_copied result ≡ find (λ r. same_uid r.uid uid) self.now.state.records }
+    {
+        find_record(self.records.as_slice(), uid)
+    }
+
+    /// The records in memory of their own, in order of their UIDs.
+    pub fn rows(&self, alloc: Global) -> Result<Vec<Update>, AllocError>
+        ensures { IfOk result (λ rows. rows.items ≡ self.now.state.records) }
+    {
+        let mut rows = Vec::new(alloc);
+        for record in self.records.as_slice() {
+            rows.push(record.copy(alloc)?)?;
+        }
+        Ok(rows)
+    }
+}
