@@ -1,6 +1,5 @@
 -- Members' names in form.
-use Rattle.std.specs.Prelude.{◌≡◌, true, List}
-use Rattle.std.specs.List.{AllByRecursion}
+use Rattle.std.specs.Prelude.{◌≡◌, true, All, List}
 use Rattle.script_lang.specs.Grammar.{is_member_name}
 use Rattle.script_engine.specs.declared.names.MemberName.{MemberName}
 use Rattle.script_engine.specs.declared.refusal.Refusal.{Refusal}
@@ -8,7 +7,7 @@ use Rattle.script_engine.specs.declared.refusal.Refusal.TheVariants.{Unknown, Ex
 
 -- each member has a name of 1 to 8 letters a to z
 abbrev pub AreNamed : List MemberName → Type 0
-AreNamed names = AllByRecursion (λ m. is_member_name m.name ≡ true) names
+AreNamed names = All (λ m. is_member_name m.name ≡ true) names
 
 -- a name that a refusal has is a member's
 abbrev pub HasName : Refusal → Type 0

@@ -4,8 +4,8 @@ ghost use Rattle.script_lang.specs.Grammar.{is_member_name};
 ghost use Rattle.script_engine.specs.Named.{HasName};
 ghost use Rattle.script_engine.specs.Printed.{printed};
 ghost use Rattle.script_engine.specs.Refusals.{refused_text};
-ghost use Rattle.script_engine.specs.Text.{consumed_text, last_text, usn_text};
-ghost use Rattle.script_engine.specs.declared.refusal.Refusal.TheVariants as why;
+ghost use Rattle.script_engine.specs.Text.{consumed_text, last_text, own_word, usn_text};
+ghost use Rattle.script_engine.specs.declared.refusal.Refusal.TheVariants.{Exists, Local, Unknown};
 
 use crate::names::text_of;
 use crate::{Consumed, Refusal};
@@ -33,15 +33,29 @@ pub(crate) fn pulled_text(alloc: Global, taken: u64) -> Result<String, AllocErro
     format!(in alloc; "pulled {taken}\n")
 }
 
+/// A version of a member.
+fn own_word(alloc: Global, name: &[u8], version: u64) -> Result<String, AllocError>
+    requires { is_member_name name.now ≡ true }
+    ensures { IfOk result (λ text. string_bytes text ≡ own_word name.now version) }
+{
+    let name = text_of(name);
+    format!(in alloc; "{name}:{version}")
+}
+
 /// What a consumed journal record of a member prints.
 fn consumed_text(alloc: Global, name: &[u8], consumed: Consumed) -> Result<String, AllocError>
     requires { is_member_name name.now ≡ true }
     ensures { IfOk result (λ text. string_bytes text ≡ consumed_text name.now consumed) }
 {
-    let name = text_of(name);
     match consumed {
-        Consumed::Made { usn } => format!(in alloc; "update {name}:{usn}\n"),
-        Consumed::Skipped { usn } => format!(in alloc; "skip {name}:{usn}\n"),
+        Consumed::Made { usn } => {
+            let version = own_word(alloc, name, usn)?;
+            format!(in alloc; "update {version}\n")
+        }
+        Consumed::Skipped { usn } => {
+            let version = own_word(alloc, name, usn)?;
+            format!(in alloc; "skip {version}\n")
+        }
     }
 }
 
@@ -62,7 +76,7 @@ pub(crate) fn last_text(
 
 fn unknown_text(alloc: Global, name: &[u8]) -> Result<String, AllocError>
     requires { is_member_name name.now ≡ true }
-    ensures { IfOk result (λ text. string_bytes text ≡ refused_text (why.Unknown name.now)) }
+    ensures { IfOk result (λ text. string_bytes text ≡ refused_text (Unknown name.now)) }
 {
     let name = text_of(name);
     format!(in alloc; "refused 1 unknown {name}\n")
@@ -70,7 +84,7 @@ fn unknown_text(alloc: Global, name: &[u8]) -> Result<String, AllocError>
 
 fn exists_text(alloc: Global, name: &[u8]) -> Result<String, AllocError>
     requires { is_member_name name.now ≡ true }
-    ensures { IfOk result (λ text. string_bytes text ≡ refused_text (why.Exists name.now)) }
+    ensures { IfOk result (λ text. string_bytes text ≡ refused_text (Exists name.now)) }
 {
     let name = text_of(name);
     format!(in alloc; "refused 2 exists {name}\n")
@@ -78,7 +92,7 @@ fn exists_text(alloc: Global, name: &[u8]) -> Result<String, AllocError>
 
 /// What the first refusal of a local operation prints.
 fn local_text(alloc: Global, why: Refused) -> Result<String, AllocError>
-    ensures { IfOk result (λ text. string_bytes text ≡ refused_text (why.Local why)) }
+    ensures { IfOk result (λ text. string_bytes text ≡ refused_text (Local why)) }
 {
     match why {
         Refused::TooLarge { length } => format!(in alloc; "refused 10 toolarge {length}\n"),
