@@ -1,3 +1,4 @@
+pub mod Named
 pub mod Printed
 pub mod Scene
 pub mod Refusals

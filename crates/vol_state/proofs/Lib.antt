@@ -16,5 +16,6 @@ mod Walks
 mod Hinted
 mod Numbering
 mod Standing
+mod Recent
 mod Tabling
 mod Waying
