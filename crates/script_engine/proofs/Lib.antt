@@ -1,2 +1,4 @@
 pub mod Vectors
 pub mod Volumes
+pub mod Passing
+pub mod Scenes

@@ -18,12 +18,13 @@ use Rattle.vol_state.specs.Tree.{AreRising, Ends, IsHome, IsTree}
 use Rattle.vol_state.specs.Effects.{at_place, effect, logged, stamp, with_bytes}
 use Rattle.vol_state.specs.Valid.{IsVolume}
 use Rattle.vol_state.specs.Laws.{AreFree}
-use Rattle.vol_state.specs.Maps.{Maps, Stands, write}
+use Rattle.vol_state.specs.Maps.{Maps, Stands, fresh_maps, write}
+use Rattle.vol_state.specs.Seen.{fresh_state}
 use Rattle.vol_state.specs.Tables.{IsAt, IsDirectory, IsLocal, LeadsBy}
 use Rattle.vol_state.proofs.Climbing.{by_cases, differ}
 use Rattle.vol_state.proofs.Finding.{in_at}
 use Rattle.vol_state.proofs.Runs.{run_push}
-use Rattle.vol_state.proofs.Standing.{stands_on}
+use Rattle.vol_state.proofs.Standing.{begins_standing, stands_on}
 use Rattle.vol_state.proofs.Tabling.{child_by, directory_at, item_of, tables_are_tests}
 use Rattle.vol_state.proofs.Tops.{greatest_in, objects_fid}
 use Rattle.vol_state.proofs.Trees.{rising_edit, rising_push, rising_without}
@@ -178,11 +179,26 @@ leaves (Place fid parent name) v m h free n l = absurd l
 
 -- a member whose volume is one of lists has one after each local operation
 pub local_lists : (w : World) (d : ℕ) (op : VolCmd) (new : World) → Step w d (Local op) new → Invariant new
-    → (v : State) × AreLists d (w.at d).volume v → (v : State) × AreLists d (new.at d).volume v
+    → (v : State) × AreLists d (w.at d).volume v → (v : State) × AreLists d (write d op (w.at d).volume) v
 local_lists w d op new step h (v, l) =
     let m = (w.at d).volume in
     let left = leaves op v m l.valid l.free l.numbered step.0 in
     let stands : Stands (effect op v) (write v.own op m) = stands_on op v m l.valid l.free (tables_are_tests op v m l.valid l.free l.stands (inl step.0)) l.stands in
     let own : Stands (effect op v) (write d op m) = subst (λ x. Stands (effect op v) (write x op m)) l.own stands in
     let here : (new.at d).volume ≡ write d op m = ap (λ (z : World). (z.at d).volume) step.1 ∙ ap (λ x. x.volume) (at_same w.at d (operated d op (w.at d))) in
-    (effect op v, lists_are new d (effect op v) h left.rising left.numbered (left.own ∙ l.own) (subst (Stands (effect op v)) (sym here) own))
+    (effect op v, subst (λ m. AreLists d m (effect op v)) here (lists_are new d (effect op v) h left.rising left.numbered (left.own ∙ l.own) (subst (Stands (effect op v)) (sym here) own)))
+
+-- ---- nothing in it
+
+pub fresh_lists : (own : ℕ) → AreLists own fresh_maps (fresh_state own)
+unfolding greatest_fid greatest_usn
+fresh_lists own = record {
+  valid = record {
+    tree = record { rising = tt; homes = λ o i. absurd i; ends = λ o i. absurd i; apart = λ a b parent name i j u v. absurd i };
+    uids = λ a b i j e. absurd i;
+  };
+  free = record { fid = omega arith; usn = omega arith };
+  numbered = record { run = tt; next = refl };
+  own = refl;
+  stands = begins_standing own;
+}
