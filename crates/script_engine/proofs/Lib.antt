@@ -1,1 +1,5 @@
 mod Texts
+pub mod Vectors
+pub mod Volumes
+pub mod Passing
+pub mod Scenes

@@ -7,3 +7,5 @@ pub mod Consuming
 pub mod Pulling
 pub mod Trees
 pub mod Text
+pub mod Sound
+pub mod Laws

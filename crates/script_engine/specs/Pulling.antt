@@ -10,7 +10,7 @@ use Rattle.record_db.specs.Records.{Versions, both, plus, IsRecord}
 use Rattle.name_rules.specs.Tree.{is_file}
 use Rattle.name_rules.specs.Next.{IsPending}
 use Rattle.world_model.specs.World.{World, IsRecordOf}
-use Rattle.world_model.specs.Events.{Step, SendVector, SendUpdate, Adopt, Finish}
+use Rattle.world_model.specs.Events.{Step, SendVector, SendUpdate, Adopt, Finish, IsOfFile}
 use Rattle.world_model.specs.Rounds.{IsWanted}
 use Rattle.script_engine.specs.declared.refusal.Refusal.{Refusal}
 use Rattle.script_engine.specs.declared.refusal.Refusal.TheVariants.{NotYet, VectorFull}
@@ -61,9 +61,9 @@ TakesFiles w puller server [] taken why new = (taken ≡ 0) × (why ≡ None) ×
 TakesFiles w puller server (u ∷ us) taken why new =
     ((IsWanted w puller u → ⊥) × TakesFiles w puller server us taken why new)
     ⊎ ((IsWanted w puller u × (usn : ℕ) × IsLastPending w server u.uid usn × (taken ≡ 0) × (why ≡ Some (NotYet usn)) × (new ≡ w))
-    ⊎ (((v : Update) × (mid : World) × (others : ℕ) × IsWanted w puller u × (v.uid ≡ u.uid) × IsRecordOf w server v × Takes w puller server v mid
+    ⊎ (((v : Update) × (mid : World) × (others : ℕ) × IsWanted w puller u × (v.uid ≡ u.uid) × IsOfFile w server v × Takes w puller server v mid
     × TakesFiles mid puller server us others why new × (taken ≡ others + 1))
-    ⊎ ((v : Update) × (count : ℕ) × IsWanted w puller u × (v.uid ≡ u.uid) × IsRecordOf w server v × IsTooMuch w puller v count × (new ≡ w)
+    ⊎ ((v : Update) × (count : ℕ) × IsWanted w puller u × (v.uid ≡ u.uid) × IsOfFile w server v × IsTooMuch w puller v count × (new ≡ w)
     × (taken ≡ 0) × (why ≡ Some (VectorFull count)))))
 
 -- the end of the round: all of the vector that was sent is covered, unless that has too many intervals

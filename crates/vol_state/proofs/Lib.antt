@@ -1,10 +1,10 @@
-mod Climbing
-mod Finding
+pub mod Climbing
+pub mod Finding
 mod Bounds
 mod Edits
-mod Runs
-mod Trees
-mod Tops
+pub mod Runs
+pub mod Trees
+pub mod Tops
 mod Volumes
 mod Kept
 mod Reaching
@@ -15,7 +15,7 @@ mod Chains
 mod Walks
 mod Hinted
 mod Numbering
-mod Standing
+pub mod Standing
 mod Recent
-mod Tabling
-mod Waying
+pub mod Tabling
+pub mod Waying
