@@ -3,3 +3,6 @@ pub mod Vectors
 pub mod Volumes
 pub mod Passing
 pub mod Scenes
+pub mod Pairs
+pub mod Going
+pub mod Operating

@@ -8,4 +8,5 @@ pub mod Pulling
 pub mod Trees
 pub mod Text
 pub mod Sound
+pub mod Standing
 pub mod Laws
