@@ -6,3 +6,5 @@ pub mod Scenes
 pub mod Pairs
 pub mod Going
 pub mod Operating
+pub mod Widths
+pub mod Consumption
