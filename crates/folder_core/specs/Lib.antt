@@ -9,3 +9,4 @@ pub mod Finish
 pub mod Answers
 pub mod Sound
 pub mod Replay
+pub mod Given

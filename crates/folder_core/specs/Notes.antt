@@ -5,8 +5,8 @@ use Rattle.frs_base.specs.declared.sum.Sum.{Sum}
 use Rattle.vol_state.specs.declared.operation.LocalOp.{LocalOp}
 use Rattle.vol_state.specs.declared.operation.LocalOp.TheVariants as op
 use Rattle.name_rules.specs.Next.{content_sum}
-use Rattle.pinned_pages.specs.declared.FileAnswer.{FileAnswer}
-use Rattle.pinned_pages.specs.declared.FileAnswer.TheVariants as answer
+use Rattle.pinned_pages.specs.declared.answer.FileAnswer.{FileAnswer}
+use Rattle.pinned_pages.specs.declared.answer.FileAnswer.TheVariants as answer
 use Rattle.folder_core.specs.declared.event.Event.{Event}
 use Rattle.folder_core.specs.declared.event.Event.TheVariants as event
 use Rattle.folder_core.specs.declared.reply.Reply.{Reply}

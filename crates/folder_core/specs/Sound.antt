@@ -1,12 +1,11 @@
 -- What is true of every member's machine, whatever its partners send.
 use Rattle.std.specs.Prelude.{◌≡◌, ◌<◌, ◌≤◌, ◌^◌, ℕ, true, Option}
+use Rattle.std.specs.List.{AllByRecursion}
 use Rattle.frs_base.specs.Identifiers.{content_set}
-use Rattle.frs_base.specs.Options.{In}
 use Rattle.frs_base.specs.declared.sum.Sum.{Sum}
 use Rattle.frs_base.specs.declared.version.Gvsn.{Gvsn}
 use Rattle.frs_base.specs.declared.version.Uid.{Uid}
 use Rattle.version_vector.specs.Versions.{covers}
-use Rattle.win_order.specs.declared.update.Update.{Update}
 use Rattle.vol_state.specs.Journal.{IsNumbered}
 use Rattle.vol_state.specs.Laws.{AreFree}
 use Rattle.vol_state.specs.Maps.{maps_of}
@@ -31,12 +30,11 @@ member_of m staged = record {
 abbrev pub Agrees : Machine → Type 0
 Agrees m = (staged : Uid → Option Sum) × FolderIsSound m.book.own (member_of m staged) m.book.records
 
--- versions are made and taken once, and clocks stay in their bounds
+-- no own version is covered that isn't consumed, and clocks stay below 2^62
 pub record IsInBounds (book : BookState) : Type 0 where
   pub begun : 9 ≤ book.consumed
   pub ahead : (g : Gvsn) → covers book.vector g ≡ true → g.db ≡ book.own → g.version < book.consumed
-  pub one_each : (u v : Update) → In u book.records → In v book.records → u.gvsn ≡ v.gvsn → u ≡ v
-  pub clocks : (u : Update) → In u book.records → u.clock < 2 ^ 62
+  pub clocks : AllByRecursion (λ u. u.clock < 2 ^ 62) book.records
 
 -- the journal's USNs run from 9 without a gap up to the next, all numbers in use are below the next ones
 pub record IsInOrder (m : Machine) : Type 0 where

@@ -5,9 +5,11 @@
 //! it answers, and why an event changes nothing. [`Entry`] is how an event stands in the history.
 #![tactic(auto)]
 
+mod answer;
 mod copies;
 mod entry;
 mod event;
+mod machine;
 mod mark;
 mod note;
 mod refusal;

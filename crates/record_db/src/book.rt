@@ -117,7 +117,8 @@ impl Book {
 
     /// The records in memory of their own, in order of their UIDs.
     pub fn rows(&self, alloc: Global) -> Result<Vec<Update>, AllocError>
-        ensures { IfOk result (λ rows. rows.items ≡ self.now.state.records) }
+        ensures rows { IfOk result (λ rows. rows.items ≡ self.now.state.records) }
+        ensures book { IsBook self.now.state }
     {
         let mut rows = Vec::new(alloc);
         for record in self.records.as_slice() {

@@ -17,3 +17,6 @@ pub use laws::{
     fresh_books_stand, recording_books_stand, standing_books_stay,
 };
 pub use records::find_record;
+
+#[cfg(test)]
+mod tests;

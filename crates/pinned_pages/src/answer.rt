@@ -1,0 +1,13 @@
+// The answer to a request for a file.
+use win_order::Update;
+
+/// What a member answers when it is asked for a file.
+#[derive(Debug, Drop, PartialEq, Eq)]
+pub enum FileAnswer {
+    /// Its record, as it was when the member's history had this length.
+    Found { at: u64, update: Update },
+    /// The file was changed, and the journal record with this USN isn't consumed yet.
+    NotYet { usn: u64 },
+    /// No record is of the file.
+    NoRecord,
+}

@@ -1,0 +1,70 @@
+// What no contract says: that a book is pinned and that what it then does leaves the pinned state.
+use super::*;
+use frs_base::{Gvsn, MemberKind, Name, Sum, Uid, content_set, database_of};
+use record_db::Book;
+use std::alloc::Global;
+use std::test::Fail;
+use version_vector::Interval;
+use win_order::Update;
+
+fn file(born: u64) -> Uid {
+    Uid {
+        db: database_of(1),
+        version: born,
+    }
+}
+
+/// A file that was born with this number, at this version of the second member.
+fn update(alloc: Global, born: u64, version: u64) -> Result<Update, Fail> {
+    Ok(Update {
+        present: true,
+        name_conflict: false,
+        attributes: 0x20,
+        fence: 3,
+        clock: version,
+        created: 100,
+        set: content_set(),
+        hash: Sum([0; 20]),
+        similarity: [0; 16],
+        uid: file(born),
+        gvsn: Gvsn {
+            db: database_of(2),
+            version,
+        },
+        parent: Uid {
+            db: content_set(),
+            version: 1,
+        },
+        name: Name::from_units(alloc, &[0x78])?,
+        flags: 0,
+    })
+}
+
+#[test]
+fn a_pinned_state_stays(rt: HostRuntime) -> Result<(), Fail> {
+    let alloc = rt.alloc();
+    let mut book = Book::new(MemberKind::Plain, database_of(1), content_set());
+    for (born, version) in [(12, 9), (9, 10), (15, 11)] {
+        book.adopt(alloc, update(alloc, born, version)?)?;
+    }
+    let pinned = Pinned::of(alloc, &book, 3)?;
+    for (born, version) in [(9, 12), (10, 13)] {
+        book.adopt(alloc, update(alloc, born, version)?)?;
+    }
+    assert_eq!(rt; pinned.at, 3);
+    let covered = [Interval {
+        db: database_of(2),
+        low: 9,
+        high: 12,
+    }];
+    assert_eq!(rt; pinned.vector.intervals(), covered.as_slice());
+    assert_eq!(rt; pinned.records.as_slice().len(), 3);
+    for (born, version) in [(9, 10), (12, 9), (15, 11)] {
+        let wanted = update(alloc, born, version)?;
+        assert!(rt; pinned.find(file(born)) == Some(&wanted), "{born}");
+    }
+    for born in [8, 10, 13, 16] {
+        assert!(rt; pinned.find(file(born)).is_none(), "{born}");
+    }
+    Ok(())
+}

@@ -1,0 +1,258 @@
+// What no contract says: that the calls succeed, and books written out by hand.
+use super::*;
+use frs_base::{Guid, Gvsn, MemberKind, Name, Phase, Sum, Uid, content_set, database_of};
+use std::alloc::Global;
+use std::test::Fail;
+use version_vector::{Interval, Vector, VectorError};
+use win_order::Update;
+
+fn file(born: u64) -> Uid {
+    Uid {
+        db: database_of(1),
+        version: born,
+    }
+}
+
+/// An update of the first member's file that was born with this number.
+fn update(alloc: Global, born: u64, gvsn: Gvsn, clock: u64) -> Result<Update, Fail> {
+    Ok(Update {
+        present: true,
+        name_conflict: false,
+        attributes: 0x20,
+        fence: 3,
+        clock,
+        created: 100,
+        set: content_set(),
+        hash: Sum([0; 20]),
+        similarity: [0; 16],
+        uid: file(born),
+        gvsn,
+        parent: Uid {
+            db: content_set(),
+            version: 1,
+        },
+        name: Name::from_units(alloc, &[0x78])?,
+        flags: 0,
+    })
+}
+
+fn version_of(member: u64, version: u64) -> Gvsn {
+    Gvsn {
+        db: database_of(member),
+        version,
+    }
+}
+
+fn part(member: u64, low: u64, high: u64) -> Interval {
+    Interval {
+        db: database_of(member),
+        low,
+        high,
+    }
+}
+
+fn book() -> Book {
+    Book::new(MemberKind::Plain, database_of(1), content_set())
+}
+
+/// The numbers of a line, parted by spaces.
+fn numbers_of(alloc: Global, text: &str) -> Result<Vec<u64>, Fail> {
+    let mut numbers = Vec::new(alloc);
+    for word in text.split(' ') {
+        numbers.push(word.parse::<u64>()?)?;
+    }
+    Ok(numbers)
+}
+
+/// The command of a line: `skip USN`, `local MEMBER VERSION BORN CLOCK USN`,
+/// `adopt MEMBER VERSION BORN CLOCK` or `finish MEMBER LOW HIGH`.
+fn command(alloc: Global, line: &str) -> Result<BookCmd, Fail> {
+    let (word, rest) = line.split_once(' ').ok_or("no word")?;
+    let numbers = numbers_of(alloc, rest)?;
+    match numbers.as_slice() {
+        [usn] => Ok(BookCmd::RecordLocal {
+            usn: *usn,
+            update: None,
+        }),
+        [member, low, high] => Ok(BookCmd::Finish {
+            sent: Vector::of(alloc, &[part(*member, *low, *high)])?,
+        }),
+        [member, version, born, clock, usn] => Ok(BookCmd::RecordLocal {
+            usn: *usn,
+            update: Some(update(alloc, *born, version_of(*member, *version), *clock)?),
+        }),
+        [member, version, born, clock] if word == "adopt" => Ok(BookCmd::Adopt {
+            update: update(alloc, *born, version_of(*member, *version), *clock)?,
+        }),
+        _ => Err("no command")?,
+    }
+}
+
+/// Does a command by the call that has its name.
+fn done(alloc: Global, book: &mut Book, cmd: BookCmd) -> Result<(), VectorError> {
+    match cmd {
+        BookCmd::RecordLocal { usn, update } => book.record_local(alloc, usn, update),
+        BookCmd::Adopt { update } => book.adopt(alloc, update),
+        BookCmd::Finish { sent } => book.finish(alloc, &sent),
+    }
+}
+
+/// The last digit of a database, which is the number of its member.
+fn member_of(db: Guid) -> u128 {
+    db.number() % 16
+}
+
+/// The vector, then each record's birth, version and clock, then what is consumed next.
+fn text_of(alloc: Global, book: &Book) -> Result<String, Fail> {
+    let mut text = String::new(alloc);
+    for i in book.vector().intervals() {
+        let db = member_of(i.db);
+        let (low, high) = (i.low, i.high);
+        text.push_str(format!(in alloc; "{db}:{low}..{high} ")?.as_str())?;
+    }
+    text.push_str("|")?;
+    for record in book.records() {
+        let db = member_of(record.gvsn.db);
+        let (born, version, clock) = (record.uid.version, record.gvsn.version, record.clock);
+        text.push_str(format!(in alloc; " {born}={db}:{version}@{clock}")?.as_str())?;
+    }
+    let consumed = book.consumed();
+    text.push_str(format!(in alloc; " | {consumed}")?.as_str())?;
+    text.push_str(if book.phase() == Phase::Initial {
+        " initial"
+    } else {
+        " normal"
+    })?;
+    Ok(text)
+}
+
+/// Commands, and what the book then is.
+fn rows() -> &'static str {
+    "local 1 9 9 100 9 -> 1:9..10 | 9=1:9@100 | 10 initial
+skip 10 -> 1:9..11 | 9=1:9@100 | 11 initial
+local 1 11 11 100 11 -> 1:9..12 | 9=1:9@100 11=1:11@100 | 12 initial
+local 1 12 9 200 12 -> 1:9..13 | 9=1:12@200 11=1:11@100 | 13 initial
+adopt 2 20 10 300 -> 1:9..13 2:20..21 | 9=1:12@200 10=2:20@300 11=1:11@100 | 13 initial
+adopt 2 22 11 300 -> 1:9..13 2:20..21 2:22..23 | 9=1:12@200 10=2:20@300 11=2:22@300 | 13 initial
+adopt 3 9 11 50 -> 1:9..13 2:20..21 2:22..23 3:9..10 | 9=1:12@200 10=2:20@300 11=3:9@50 | 13 initial
+finish 2 9 23 -> 1:9..13 2:9..23 3:9..10 | 9=1:12@200 10=2:20@300 11=3:9@50 | 13 normal
+local 1 14 9 400 13 -> 1:9..13 2:9..23 3:9..10 | 9=1:12@200 10=2:20@300 11=3:9@50 | 13 normal
+local 2 13 9 400 13 -> 1:9..13 2:9..23 3:9..10 | 9=1:12@200 10=2:20@300 11=3:9@50 | 13 normal
+skip 18446744073709551615 -> 1:9..13 2:9..23 3:9..10 | 9=1:12@200 10=2:20@300 11=3:9@50 | 13 normal
+adopt 2 18446744073709551615 9 400 -> 1:9..13 2:9..23 3:9..10 | 9=1:12@200 10=2:20@300 11=3:9@50 | 13 normal
+adopt 3 18446744073709551614 9 400 -> 1:9..13 2:9..23 3:9..10 3:18446744073709551614..18446744073709551615 | 9=3:18446744073709551614@400 10=2:20@300 11=3:9@50 | 13 normal"
+}
+
+#[test]
+fn a_book_takes_commands(rt: HostRuntime) -> Result<(), Fail> {
+    let alloc = rt.alloc();
+    let mut book = book();
+    for line in rows().lines() {
+        let (words, wanted) = line.split_once(" -> ").ok_or("no arrow")?;
+        done(alloc, &mut book, command(alloc, words)?)?;
+        assert_eq!(rt; text_of(alloc, &book)?.as_str(), wanted, "{words}");
+    }
+    Ok(())
+}
+
+#[test]
+fn a_command_that_is_ready_is_taken_as_the_call_does_it(rt: HostRuntime) -> Result<(), Fail> {
+    let alloc = rt.alloc();
+    let mut book = book();
+    for line in rows().lines() {
+        let (words, wanted) = line.split_once(" -> ").ok_or("no arrow")?;
+        let before = text_of(alloc, &book)?;
+        let ready = book.ready(alloc, command(alloc, words)?)?;
+        assert_eq!(rt; text_of(alloc, &book)?.as_str(), before.as_str(), "{words}");
+        book.take(ready);
+        assert_eq!(rt; text_of(alloc, &book)?.as_str(), wanted, "{words}");
+    }
+    Ok(())
+}
+
+#[test]
+fn a_fresh_book_has_nothing(rt: HostRuntime) -> Result<(), Fail> {
+    let book = book();
+    assert_eq!(rt; text_of(rt.alloc(), &book)?.as_str(), "| | 9 initial");
+    assert_eq!(rt; book.kind(), MemberKind::Plain);
+    assert_eq!(rt; book.own(), database_of(1));
+    assert_eq!(rt; book.set(), content_set());
+    assert!(rt; book.held(file(9)).is_none());
+    Ok(())
+}
+
+#[test]
+fn records_are_found_and_copied(rt: HostRuntime) -> Result<(), Fail> {
+    let alloc = rt.alloc();
+    let mut book = book();
+    for line in rows().lines().take(6) {
+        let (words, _) = line.split_once(" -> ").ok_or("no arrow")?;
+        done(alloc, &mut book, command(alloc, words)?)?;
+    }
+    assert!(rt; book.rows(alloc)?.as_slice() == book.records());
+    let found = update(alloc, 10, version_of(2, 20), 300)?;
+    assert!(rt; book.held(file(10)) == Some(&found));
+    assert!(rt; book.held(file(12)).is_none());
+    Ok(())
+}
+
+#[test]
+fn a_record_is_of_the_book_s_content_set(rt: HostRuntime) -> Result<(), Fail> {
+    let alloc = rt.alloc();
+    let set = Guid::of_number(7);
+    let mut book = Book::new(MemberKind::Primary, database_of(1), set);
+    book.adopt(alloc, update(alloc, 9, version_of(2, 9), 100)?)?;
+    for record in book.records() {
+        assert_eq!(rt; record.set, set);
+    }
+    assert_eq!(rt; book.records().len(), 1);
+    Ok(())
+}
+
+/// So many versions of the second member, with a gap behind each.
+fn gaps(alloc: Global, count: u32) -> Result<Vector, Fail> {
+    let mut intervals = Vec::new(alloc);
+    for i in 0..count {
+        let low = 2 * u64::from(i) + 10;
+        intervals.push(part(2, low, low + 1))?;
+    }
+    Ok(Vector::of(alloc, &intervals)?)
+}
+
+/// What a command answers in a book with as many intervals as a vector may have, and how many
+/// there are then.
+fn answer(alloc: Global, line: &str) -> Result<(Result<(), VectorError>, usize), Fail> {
+    let mut book = book();
+    book.finish(alloc, &gaps(alloc, 65_536)?)?;
+    let cmd = command(alloc, line)?;
+    let answer = done(alloc, &mut book, cmd);
+    Ok((answer, book.vector().intervals().len()))
+}
+
+#[test]
+fn a_vector_that_would_be_too_long_is_refused(rt: HostRuntime) -> Result<(), Fail> {
+    let full = Err(VectorError::VectorFull { count: 65_537 });
+    for (line, wanted, length) in [
+        ("skip 9", full, 65_536),
+        ("adopt 3 9 9 100", full, 65_536),
+        ("adopt 2 9 9 100", Ok(()), 65_536),
+        ("adopt 2 11 9 100", Ok(()), 65_535),
+        ("finish 3 9 20", full, 65_536),
+        ("finish 2 10 20", Ok(()), 65_532),
+    ] {
+        let (answer, found) = answer(rt.alloc(), line)?;
+        assert_eq!(rt; answer, wanted, "{line}");
+        assert_eq!(rt; found, length, "{line}");
+    }
+    Ok(())
+}
+
+#[test]
+fn a_round_that_would_cover_too_much_changes_nothing(rt: HostRuntime) -> Result<(), Fail> {
+    let alloc = rt.alloc();
+    let mut book = book();
+    let full = Err(VectorError::VectorFull { count: 65_537 });
+    assert_eq!(rt; book.finish(alloc, &gaps(alloc, 65_537)?), full);
+    assert_eq!(rt; text_of(alloc, &book)?.as_str(), "| | 9 initial");
+    Ok(())
+}
