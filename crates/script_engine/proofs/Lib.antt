@@ -8,3 +8,6 @@ pub mod Going
 pub mod Operating
 pub mod Widths
 pub mod Consumption
+pub mod Adopting
+pub mod Serving
+pub mod Finishing
