@@ -2,3 +2,4 @@ pub mod Vectors
 pub mod Volumes
 pub mod Passing
 pub mod Scenes
+pub mod Orders
