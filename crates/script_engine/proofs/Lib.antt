@@ -3,3 +3,4 @@ pub mod Volumes
 pub mod Passing
 pub mod Scenes
 pub mod Orders
+pub mod Once
