@@ -4,3 +4,4 @@ pub mod Passing
 pub mod Scenes
 pub mod Orders
 pub mod Once
+pub mod Texts

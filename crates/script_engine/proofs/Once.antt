@@ -1,4 +1,4 @@
--- A line prints one text and leads to one scene.
+-- What is consumed and what is pulled is one.
 use Rattle.std.proofs.Common.{◌≡◌, ◌≢◌, ◌<◌, ◌≤◌, ◌+◌, ◌^◌, ◌++◌, ◌⊎◌, ℕ, Bool, true, false, List, [], ◌∷◌, length, refl, sym, ap, ◌∙◌, subst, arith, inl, inr, Option, Some, None, MatchOption, Result, Ok, Err, All}
 use Rattle.std.specs.Prelude.{MatchResult, codes, decimal, flat_map}
 use Rattle.std.proofs.lemmas.List.Elements.{All-head, All-tail}
@@ -86,12 +86,12 @@ stops : (w : World) (d moment : ℕ) (c : Consumed) (count : ℕ) (new : World) 
 stops w d moment c count new (made, r, much) one = let (other, k, fits) = one_more w d moment c new one in not_both (widened w d) count fits much
 
 -- some records, one refusal or none, and one world
-record SameEnd (a b : List Consumed) (why other : Option Refusal) (m n : World) : Type 0 where
-  done : a ≡ b
-  refusal : why ≡ other
-  world : m ≡ n
+pub record SameEnd (a b : List Consumed) (why other : Option Refusal) (m n : World) : Type 0 where
+  pub done : a ≡ b
+  pub refusal : why ≡ other
+  pub world : m ≡ n
 
-consumes_all_one : (w : World) (d moment : ℕ) (a b : List Consumed) (why other : Option Refusal) (m n : World) → moment < 2 ^ 61 → IsSoundWorld w
+pub consumes_all_one : (w : World) (d moment : ℕ) (a b : List Consumed) (why other : Option Refusal) (m n : World) → moment < 2 ^ 61 → IsSoundWorld w
     → ConsumesAll w d moment a why m → ConsumesAll w d moment b other n → SameEnd a b why other m n
 consumes_all_one w d moment [] [] why other m n early h (inl (end, none, is)) (inl (end', none', is')) = record { done = refl; refusal = none ∙ sym none'; world = is ∙ sym is' }
 consumes_all_one w d moment [] [] why other m n early h (inl (end, none, is)) (inr (count, (made, r, much), some, is')) = absurd (at_end w d moment made end r)
@@ -109,20 +109,20 @@ consumes_all_one w d moment (c ∷ cs) (e ∷ es) why other m n early h (mid, on
     record { done = λ i. first i ∷ rest.done i; refusal = rest.refusal; world = rest.world }
 
 -- a next record as one of all, or none
-abbrev Next : World → ℕ → ℕ → List Consumed → Option Refusal → World → Type 0
+abbrev pub Next : World → ℕ → ℕ → List Consumed → Option Refusal → World → Type 0
 Next w d moment done why new =
     ((done ≡ []) × (why ≡ None) × IsAtEnd w d × (new ≡ w))
     ⊎ (((count : ℕ) × (done ≡ []) × (why ≡ Some (VectorFull count)) × IsTooWide w d moment count × (new ≡ w))
     ⊎ ((c : Consumed) × (done ≡ c ∷ []) × (why ≡ None) × ConsumesOne w d moment c new))
 
-next_by : (w : World) (d moment : ℕ) (done : List Consumed) (why : Option Refusal) (new : World) → ConsumesNext w d moment done why new → Next w d moment done why new
+pub next_by : (w : World) (d moment : ℕ) (done : List Consumed) (why : Option Refusal) (new : World) → ConsumesNext w d moment done why new → Next w d moment done why new
 next_by w d moment [] None new (end, is) = inl (refl, refl, end, is)
 next_by w d moment [] (Some why) new (count, wide, some, is) = inr (inl (count, refl, ap Some some, wide, is))
 next_by w d moment (c ∷ []) None new one = inr (inr (c, refl, refl, one))
 next_by w d moment (c ∷ []) (Some why) new bad = absurd bad
 next_by w d moment (c ∷ more ∷ rest) why new bad = absurd bad
 
-next_one : (w : World) (d moment : ℕ) (a b : List Consumed) (why other : Option Refusal) (m n : World) → VersionsAreMade w → Next w d moment a why m → Next w d moment b other n → SameEnd a b why other m n
+pub next_one : (w : World) (d moment : ℕ) (a b : List Consumed) (why other : Option Refusal) (m n : World) → VersionsAreMade w → Next w d moment a why m → Next w d moment b other n → SameEnd a b why other m n
 next_one w d moment a b why other m n h (inl (p, q, end, is)) (inl (p', q', end', is')) = record { done = p ∙ sym p'; refusal = q ∙ sym q'; world = is ∙ sym is' }
 next_one w d moment a b why other m n h (inl (p, q, end, is)) (inr (inl (count, p', q', (made, r, much), is'))) = absurd (at_end w d moment made end r)
 next_one w d moment a b why other m n h (inl (p, q, end, is)) (inr (inr (c, p', q', one))) = let (made, r, fits) = one_more w d moment c n one in absurd (at_end w d moment made end r)
@@ -244,10 +244,10 @@ ends_one w puller s why other m n (inr (count, much, q, is)) (inr (count', much'
     (q ∙ ap (λ x. Some (VectorFull x)) (exceeds_one (both (w.at puller).known s) count count' much much') ∙ sym q', is ∙ sym is')
 
 -- what follows, where it is one and tells P unless it is refused
-record SameOn (P : Type 0) (why other : Option Refusal) (m n : World) : Type 0 where
-  refusal : why ≡ other
-  world : m ≡ n
-  told : why ≡ None → P
+pub record SameOn (P : Type 0) (why other : Option Refusal) (m n : World) : Type 0 where
+  pub refusal : why ≡ other
+  pub world : m ≡ n
+  pub told : why ≡ None → P
 
 goes_on_one : (P : Type 0) (first : Option Refusal) (mid : World) (next following : World → Option Refusal → World → Type 0) (why other : Option Refusal) (m n : World)
     → (next mid why m → following mid other n → SameOn P why other m n) → GoesOn first mid next why m → GoesOn first mid following other n → SameOn P why other m n
@@ -255,7 +255,7 @@ goes_on_one P None mid next following why other m n one a b = one a b
 goes_on_one P (Some refused) mid next following why other m n one (q, is) (q', is') =
     record { refusal = q ∙ sym q'; world = is ∙ sym is'; told = λ none. absurd (none_some refused (sym none ∙ q)) }
 
-pulls_one : (w : World) (puller server a b : ℕ) (why other : Option Refusal) (m n : World) → IsSoundWorld w → Pulls w puller server a why m → Pulls w puller server b other n → SameOn (a ≡ b) why other m n
+pub pulls_one : (w : World) (puller server a b : ℕ) (why other : Option Refusal) (m n : World) → IsSoundWorld w → Pulls w puller server a why m → Pulls w puller server b other n → SameOn (a ≡ b) why other m n
 pulls_one w puller server a b why other m n h (sent, page, listed, at_once, fetched, first, mid, send, asked, pages, on, count) (sent', page', listed', at_once', fetched', first', mid', send', asked', pages', on', count') =
     record { refusal = r.refusal; world = r.world; told = λ none. count ∙ (λ i. one.rest.taken i + r.told none i) ∙ sym count' }
   where
