@@ -5,3 +5,4 @@ pub mod Scenes
 pub mod Orders
 pub mod Once
 pub mod Texts
+pub mod Lasting

@@ -63,11 +63,12 @@ Lasts s new k name = (slice_get new.names k ≡ Some name)
 
 -- what a member covers, and so what `show` prints in its vector, it covers after every further line
 abbrev pub StaysCovered : Type 0
-StaysCovered = (s : Scene) (more : List Line) (said : List ℕ) (new : Scene) → Run s more said new → (k : ℕ) (name : List ℕ) → slice_get s.names k ≡ Some name → Lasts s new k name
+StaysCovered = (s : Scene) (more : List Line) (said : List ℕ) (new : Scene) → IsSoundScene s → All IsLine more → Run s more said new
+    → (k : ℕ) (name : List ℕ) → slice_get s.names k ≡ Some name → Lasts s new k name
 
--- members that cover the same versions, at one moment of a run or at two, have the same records, and so one list of them
+-- members that cover the same versions, at one moment or at two, have the same records, and so one list of them
 abbrev pub EqualRecords : Type 0
-EqualRecords = (before more : List Line) (said further : List ℕ) (s new : Scene) → All IsLine before → Run fresh_scene before said s → Run s more further new
+EqualRecords = (s : Scene) (more : List Line) (said : List ℕ) (new : Scene) → IsSoundScene s → All IsLine more → Run s more said new
     → (i j : ℕ) → Same (s.world.at i).known (new.world.at j).known
     → ((u : Update) → IsRecordOf s.world i u ↔ IsRecordOf new.world j u)
     × ((a b : List Update) → Lists (IsRecordOf s.world i) a → Lists (IsRecordOf new.world j) b → a ≡ b)
