@@ -19,7 +19,7 @@ use Rattle.world_model.proofs.Headline.{equal_records}
 use Rattle.script_engine.specs.Scene.{Scene, fresh_scene, with_name}
 use Rattle.script_engine.specs.Sound.{IsNobodys, IsSoundScene}
 use Rattle.script_engine.specs.Text.{Does, Run}
-use Rattle.script_engine.specs.Laws.{EqualRecords, IsCovered, Lasts, RecordedIsCovered, StaysCovered}
+use Rattle.script_engine.specs.Scripts.{EqualRecords, IsCovered, Lasts, RecordedIsCovered, StaysCovered}
 use Rattle.script_engine.proofs.Scenes.{Follows, does_follow, fresh_scene_sound, line_keeps, run_keeps}
 
 -- ---- what only grows

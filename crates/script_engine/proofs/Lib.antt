@@ -4,5 +4,6 @@ pub mod Passing
 pub mod Scenes
 pub mod Orders
 pub mod Once
-pub mod Texts
+pub mod OneText
 pub mod Lasting
+pub mod Records

@@ -34,7 +34,7 @@ use Rattle.script_engine.specs.Consuming.{Consumed, Made, Skipped, ConsumesAll, 
 use Rattle.script_engine.specs.Pulling.{Ends, GoesOn, IsAsked, IsLastPending, Pulls, Takes, TakesFiles, TakesPages}
 use Rattle.script_engine.specs.Trees.{IsTreeOf, Row, tree_text}
 use Rattle.script_engine.specs.Text.{Acts, Changes, Consumes, Counts, Does, IsRefused, Operates, PrintsTree, Run, Shows, count_text, filled, last_text, text_unless, usn_text}
-use Rattle.script_engine.specs.Laws.{LinesPrintOneText, OneText, RunsPrintOneText}
+use Rattle.script_engine.specs.Scripts.{LinesPrintOneText, OneText, RunsPrintOneText}
 use Rattle.script_engine.proofs.Orders.{Above, Before, by_path, by_version, gvsn_irrefl, gvsn_trans, path_irrefl, path_trans, sorted_one}
 use Rattle.script_engine.proofs.Passing.{consumes_one_passes, pages_pass, passes_local, passes_vector, takes_passes}
 use Rattle.script_engine.proofs.Scenes.{fresh_scene_sound, line_keeps}

@@ -34,7 +34,7 @@ use Rattle.script_engine.specs.Sound.{AreLists, IsNobodys, IsSoundScene, IsSound
 use Rattle.script_engine.specs.Refusals.{Refusal, Local, first_refusal}
 use Rattle.script_engine.specs.Text.{Acts, Changes, Consumes, Does, IsRefused, Operates, Run, filled, last_text, text_unless, usn_text}
 use Rattle.script_engine.specs.Consuming.{Consumed, ConsumesAll}
-use Rattle.script_engine.specs.Laws.{FreshScenesAreSound, LinesKeepScenesSound, RunsKeepScenesSound}
+use Rattle.script_engine.specs.Scripts.{FreshScenesAreSound, LinesKeepScenesSound, RunsKeepScenesSound}
 use Rattle.script_engine.proofs.Passing.{Passes, consumes_all_passes, consumes_next_passes, passes_local, passes_refl, passes_trans, pulls_pass}
 use Rattle.script_engine.proofs.Vectors.{HasVector, no_versions}
 use Rattle.script_engine.proofs.Volumes.{fresh_lists}

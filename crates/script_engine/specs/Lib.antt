@@ -7,4 +7,4 @@ pub mod Pulling
 pub mod Trees
 pub mod Text
 pub mod Sound
-pub mod Laws
+pub mod Scripts

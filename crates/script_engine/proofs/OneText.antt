@@ -24,7 +24,7 @@ use Rattle.script_engine.specs.Consuming.{Consumed, ConsumesAll}
 use Rattle.script_engine.specs.Pulling.{Pulls}
 use Rattle.script_engine.specs.Trees.{tree_text}
 use Rattle.script_engine.specs.Text.{Acts, Changes, Consumes, Counts, Does, IsRefused, Operates, PrintsTree, Run, Shows, count_text, filled, last_text, text_unless, usn_text}
-use Rattle.script_engine.specs.Laws.{LinesPrintOneText, OneText, RunsPrintOneText}
+use Rattle.script_engine.specs.Scripts.{LinesPrintOneText, OneText, RunsPrintOneText}
 use Rattle.script_engine.proofs.Once.{SameEnd, SameOn, consumes_all_one, next_by, next_one, pulls_one, rows_one}
 use Rattle.script_engine.proofs.Passing.{passes_local}
 use Rattle.script_engine.proofs.Scenes.{fresh_scene_sound, line_keeps}
