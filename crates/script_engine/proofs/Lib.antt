@@ -7,3 +7,4 @@ pub mod Once
 pub mod OneText
 pub mod Lasting
 pub mod Records
+pub mod Going

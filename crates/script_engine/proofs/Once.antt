@@ -189,7 +189,7 @@ pages_one w puller server (u ∷ us) l k a b why other m n (inr (inr (inr (folde
     } }
 
 -- a member's record of a file is one
-record_one : (w : World) (d : ℕ) (u v : Update) → VersionsAreMade w → IsRecordOf w d u → IsRecordOf w d v → u.uid ≡ v.uid → u ≡ v
+pub record_one : (w : World) (d : ℕ) (u v : Update) → VersionsAreMade w → IsRecordOf w d u → IsRecordOf w d v → u.uid ≡ v.uid → u ≡ v
 record_one w d u v h a b same = best_one u v (λ x y p q e. h.one_each x y p.0 q.0 e) a b same
 
 last_one : (w : World) (d : ℕ) (u : Update) (m n : ℕ) → IsLastPending w d u.uid m → IsLastPending w d u.uid n → m ≡ n
