@@ -8,3 +8,4 @@ pub mod OneText
 pub mod Lasting
 pub mod Records
 pub mod Going
+pub mod Prints
