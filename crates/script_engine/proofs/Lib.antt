@@ -1,1 +1,6 @@
 mod Texts
+mod Members
+mod Ordered
+mod Climbing
+mod Reached
+mod Sorting

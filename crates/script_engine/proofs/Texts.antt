@@ -4,10 +4,10 @@ use Rattle.std.specs.Prelude.{String, flat_map, string_bytes}
 use Rattle.std.specs.List.{join_with_byte}
 use Rattle.std.specs.declared.alloc.Global.{Global}
 
--- a word and further ones, each behind a blank
-pub join_map : {X : Type 0} (f : X → List ℕ) (word : List ℕ) (xs : List X) → join_with_byte 32 (word ∷ map f xs) ≡ word ++ flat_map (λ x. 32 ∷ f x) xs
-join_map f word [] = sym (append-nil word)
-join_map f word (x ∷ xs) = ap (λ l. word ++ (32 ∷ l)) (join_map f (f x) xs)
+-- a word and further ones, each behind the byte
+pub join_map : {X : Type 0} (byte : ℕ) (f : X → List ℕ) (word : List ℕ) (xs : List X) → join_with_byte byte (word ∷ map f xs) ≡ word ++ flat_map (λ x. byte ∷ f x) xs
+join_map byte f word [] = sym (append-nil word)
+join_map byte f word (x ∷ xs) = ap (λ l. word ++ (byte ∷ l)) (join_map byte f (f x) xs)
 
 -- some words and some more
 pub join_append : (w : List ℕ) (ws : List (List ℕ)) (v : List ℕ) (vs : List (List ℕ)) → join_with_byte 32 ((w ∷ ws) ++ (v ∷ vs)) ≡ join_with_byte 32 (w ∷ ws) ++ (32 ∷ join_with_byte 32 (v ∷ vs))

@@ -6,4 +6,6 @@ pub mod Widening
 pub mod Consuming
 pub mod Pulling
 pub mod Trees
+pub mod Rows
+pub mod Laws
 pub mod Text
