@@ -20,13 +20,16 @@ use Rattle.world_model.proofs.Changing.{at_same}
 use Rattle.world_model.proofs.Facts.{none_some, some_is, true_false}
 use Rattle.world_model.proofs.Rounds.{adopted_is_held, held_stays, not_better}
 use Rattle.script_engine.specs.Sound.{IsSoundWorld}
-use Rattle.script_engine.specs.Refusals.{Refusal, NotYet, VectorFull}
-use Rattle.script_engine.specs.Consuming.{Consumed, Made, Skipped, ConsumesAll, ConsumesNext, ConsumesOne, IsAtEnd, IsTooWide, widened}
+use Rattle.script_engine.specs.declared.refusal.Refusal.{Refusal}
+use Rattle.script_engine.specs.declared.refusal.Refusal.TheVariants.{NotYet, VectorFull}
+use Rattle.script_engine.specs.declared.consumed.Consumed.{Consumed}
+use Rattle.script_engine.specs.declared.consumed.Consumed.TheVariants.{Made, Skipped}
+use Rattle.script_engine.specs.Consuming.{ConsumesAll, ConsumesNext, ConsumesOne, IsAtEnd, IsTooWide, widened}
 use Rattle.script_engine.specs.Pulling.{Ends, GoesOn, IsAsked, IsLastPending, IsTooMuch, Pulls, Takes, TakesFiles, TakesPages}
 use Rattle.script_engine.specs.Widening.{Exceeds, Fits}
 use Rattle.script_engine.proofs.Once.{record_one, takes_wanted}
 use Rattle.script_engine.proofs.Passing.{Passes, consumes_one_passes, files_pass, pages_pass, passes_consume, passes_trans, passes_update, passes_vector, takes_passes}
-use Rattle.script_engine.proofs.Records.{page_some, wanted_or}
+use Rattle.script_engine.proofs.Listed.{page_some, wanted_or}
 use Rattle.script_engine.proofs.Vectors.{HasVector, fits_or_exceeds, vector_both, vector_plus}
 
 -- ---- tests

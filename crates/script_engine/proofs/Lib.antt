@@ -1,3 +1,9 @@
+mod Texts
+mod Members
+mod Ordered
+mod Climbing
+mod Reached
+mod Sorting
 pub mod Vectors
 pub mod Volumes
 pub mod Passing
@@ -6,6 +12,6 @@ pub mod Orders
 pub mod Once
 pub mod OneText
 pub mod Lasting
-pub mod Records
+pub mod Listed
 pub mod Going
 pub mod Prints

@@ -28,25 +28,23 @@ use Rattle.world_model.proofs.Facts.{none_some, some_is, true_false}
 use Rattle.script_engine.specs.Scene.{Scene, IsNamed, fresh_scene, in_world, place_of, with_name}
 use Rattle.script_engine.specs.Sound.{IsSoundScene, IsSoundWorld}
 use Rattle.script_engine.specs.Printed.{printed, record_words, vector_words}
-use Rattle.script_engine.specs.Refusals.{Refusal, Local, NotYet, VectorFull, first_refusal, refused_text}
+use Rattle.script_engine.specs.declared.refusal.Refusal.{Refusal}
+use Rattle.script_engine.specs.declared.refusal.Refusal.TheVariants.{Local, NotYet, VectorFull}
+use Rattle.script_engine.specs.Refusals.{first_refusal, refused_text}
 use Rattle.script_engine.specs.Widening.{Exceeds, Fits}
-use Rattle.script_engine.specs.Consuming.{Consumed, Made, Skipped, ConsumesAll, ConsumesNext, ConsumesOne, IsAtEnd, IsTooWide, widened}
+use Rattle.script_engine.specs.declared.consumed.Consumed.{Consumed}
+use Rattle.script_engine.specs.declared.consumed.Consumed.TheVariants.{Made, Skipped}
+use Rattle.script_engine.specs.Consuming.{ConsumesAll, ConsumesNext, ConsumesOne, IsAtEnd, IsTooWide, widened}
 use Rattle.script_engine.specs.Pulling.{Ends, GoesOn, IsAsked, IsLastPending, Pulls, Takes, TakesFiles, TakesPages}
 use Rattle.script_engine.specs.Trees.{IsTreeOf, Row, tree_text}
 use Rattle.script_engine.specs.Text.{Acts, Changes, Consumes, Counts, Does, IsRefused, Operates, PrintsTree, Run, Shows, count_text, filled, last_text, text_unless, usn_text}
 use Rattle.script_engine.specs.Scripts.{LinesPrintOneText, OneText, RunsPrintOneText}
-use Rattle.script_engine.proofs.Orders.{Above, Before, by_path, by_version, gvsn_irrefl, gvsn_trans, path_irrefl, path_trans, sorted_one}
+use Rattle.script_engine.proofs.Orders.{Before, by_version, gvsn_irrefl, gvsn_trans, sorted_one}
 use Rattle.script_engine.proofs.Passing.{consumes_one_passes, pages_pass, passes_local, passes_vector, takes_passes}
 use Rattle.script_engine.proofs.Scenes.{fresh_scene_sound, line_keeps}
 use Rattle.script_engine.proofs.Vectors.{exceeds_one, not_both, vector_one}
 
 -- ---- lists
-
--- the rows of a tree are one list
-pub rows_one : (m : Maps) (a b : List Row) → IsTreeOf m a → IsTreeOf m b → a ≡ b
-rows_one m a b s t =
-    sorted_one Above (λ x y z p q. path_trans x.path y.path z.path p q) (λ x p. path_irrefl x.path p) a b (by_path a s.ordered) (by_path b t.ordered)
-    (λ x h. t.whole x.path x.object (s.each x h)) (λ x h. s.whole x.path x.object (t.each x h))
 
 -- what a puller asks for is one list
 pub page_one : (w : World) (puller server : ℕ) (a b : List Update) → IsAsked w puller server a → IsAsked w puller server b → a ≡ b

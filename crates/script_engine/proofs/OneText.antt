@@ -16,16 +16,20 @@ use Rattle.script_lang.specs.declared.line.Line.TheVariants as lines
 use Rattle.world_model.specs.World.{World, IsRecordOf}
 use Rattle.world_model.specs.Events.{Step, Local as LocalEvent}
 use Rattle.world_model.proofs.Facts.{some_is}
-use Rattle.script_engine.specs.Scene.{Scene, IsNamed, fresh_scene, in_world}
+use Rattle.script_engine.specs.Scene.{Scene, IsNamed, fresh_scene, in_world, members_of}
 use Rattle.script_engine.specs.Sound.{IsSoundScene}
 use Rattle.script_engine.specs.Printed.{printed, record_words, vector_words}
-use Rattle.script_engine.specs.Refusals.{Refusal, Local, first_refusal, refused_text}
-use Rattle.script_engine.specs.Consuming.{Consumed, ConsumesAll}
+use Rattle.script_engine.specs.declared.refusal.Refusal.{Refusal}
+use Rattle.script_engine.specs.declared.refusal.Refusal.TheVariants.{Local}
+use Rattle.script_engine.specs.Refusals.{first_refusal, refused_text}
+use Rattle.script_engine.specs.declared.consumed.Consumed.{Consumed}
+use Rattle.script_engine.specs.Consuming.{ConsumesAll}
 use Rattle.script_engine.specs.Pulling.{Pulls}
 use Rattle.script_engine.specs.Trees.{tree_text}
 use Rattle.script_engine.specs.Text.{Acts, Changes, Consumes, Counts, Does, IsRefused, Operates, PrintsTree, Run, Shows, count_text, filled, last_text, text_unless, usn_text}
 use Rattle.script_engine.specs.Scripts.{LinesPrintOneText, OneText, RunsPrintOneText}
-use Rattle.script_engine.proofs.Once.{SameEnd, SameOn, consumes_all_one, next_by, next_one, pulls_one, rows_one}
+use Rattle.script_engine.proofs.Once.{SameEnd, SameOn, consumes_all_one, next_by, next_one, pulls_one}
+use Rattle.script_engine.proofs.Sorting.{one_tree}
 use Rattle.script_engine.proofs.Passing.{passes_local}
 use Rattle.script_engine.proofs.Scenes.{fresh_scene_sound, line_keeps}
 use Rattle.script_engine.proofs.Vectors.{vector_one}
@@ -93,16 +97,16 @@ shows_one : (s : Scene) (d : ℕ) (a b : List ℕ) → Shows s d a → Shows s d
 shows_one s d a b (vector, records, v, l, said) (vector', records', v', l', said') =
     let same = vector_one (s.world.at d).known vector vector' v v' in
     let list = lists_one (IsRecordOf s.world d) records records' l l' in
-    said ∙ (λ i. printed (codes "vector" ∷ vector_words s.names (same i)) ++ flat_map (λ u. printed (record_words s.names u)) (list i)) ∙ sym said'
+    said ∙ (λ i. printed (codes "vector" ∷ vector_words (members_of s) (same i)) ++ flat_map (λ u. printed (record_words (members_of s) u)) (list i)) ∙ sym said'
 
 tree_one : (s : Scene) (d : ℕ) (a b : List ℕ) → PrintsTree s d a → PrintsTree s d b → a ≡ b
-tree_one s d a b (rows, is, said) (rows', is', said') = said ∙ ap tree_text (rows_one (s.world.at d).volume rows rows' is is') ∙ sym said'
+tree_one s d a b (rows, is, said) (rows', is', said') = said ∙ ap tree_text (one_tree (s.world.at d).volume rows rows' is is') ∙ sym said'
 
 counts_one : (s : Scene) (d : ℕ) (a b : List ℕ) → Counts s d a → Counts s d b → a ≡ b
 counts_one s d a b (vector, records, rows, v, l, is, said) (vector', records', rows', v', l', is', said') =
     let same = vector_one (s.world.at d).known vector vector' v v' in
     let list = lists_one (IsRecordOf s.world d) records records' l l' in
-    let tree = rows_one (s.world.at d).volume rows rows' is is' in
+    let tree = one_tree (s.world.at d).volume rows rows' is is' in
     said ∙ (λ i. count_text (list i) (tree i) (same i)) ∙ sym said'
 
 -- ---- lines

@@ -1,4 +1,4 @@
--- Sorted lists, and the orders of versions and of paths.
+-- Sorted lists, and the orders of versions and of files.
 use Rattle.std.proofs.Common.{◌≡◌, ◌≢◌, ◌⊎◌, ◌&&◌, ◌||◌, ℕ, Bool, true, false, eqb, ltb, List, [], ◌∷◌, refl, sym, ap, ◌∙◌, subst, arith, inl, inr}
 use Rattle.std.specs.List.{AllByRecursion}
 use Rattle.std.proofs.lemmas.Bool.Decides.{nat_tests}
@@ -67,86 +67,6 @@ Before u v = gvsn_lt u.gvsn v.gvsn ≡ true
 pub by_version : (us : List Update) → IsByVersion us → Sorted Before us
 by_version [] h = tt
 by_version (u ∷ us) h = (h.0, by_version us h.1)
-
--- ---- names
-
-and_parts : (a b : Bool) → (a && b) ≡ true → (a ≡ true) × (b ≡ true)
-and_parts true b e = (refl, e)
-and_parts false b e = absurd (cc)
-
-and_of : (a b : Bool) → a ≡ true → b ≡ true → (a && b) ≡ true
-and_of true true p q = refl
-and_of true false p q = absurd (cc)
-and_of false b p q = absurd (cc)
-
-lex_trans : (a b c : ℕ) (p q r : Bool) → (p ≡ true → q ≡ true → r ≡ true) → (ltb a b || (eqb a b && p)) ≡ true → (ltb b c || (eqb b c && q)) ≡ true → (ltb a c || (eqb a c && r)) ≡ true
-lex_trans a b c p q r rest x y = grind (arith, nat_tests, rest)
-
-lex_irrefl : (a : ℕ) (p : Bool) → (ltb a a || (eqb a a && p)) ≡ true → p ≡ true
-lex_irrefl a p e = grind (arith, nat_tests)
-
-pub units_trans : (a b c : List ℕ) → units_lt a b ≡ true → units_lt b c ≡ true → units_lt a c ≡ true
-units_trans a b [] p q = absurd (cc)
-units_trans a [] (z ∷ c) p q = absurd (cc)
-units_trans [] (y ∷ b) (z ∷ c) p q = refl
-units_trans (x ∷ a) (y ∷ b) (z ∷ c) p q = lex_trans x y z (units_lt a b) (units_lt b c) (units_lt a c) (units_trans a b c) p q
-
-pub units_irrefl : (a : List ℕ) → units_lt a a ≡ true → ⊥
-units_irrefl [] p = absurd (cc)
-units_irrefl (x ∷ a) p = units_irrefl a (lex_irrefl x (units_lt a a) p)
-
-same_head : (x y : ℕ) (p : Bool) → (eqb x y && p) ≡ true → (x ≡ y) × (p ≡ true)
-same_head x y p e = let q = and_parts (eqb x y) p e in (grind (arith, nat_tests), q.1)
-
-pub same_units_is : (a b : List ℕ) → same_units a b ≡ true → a ≡ b
-same_units_is [] [] e = refl
-same_units_is [] (y ∷ b) e = absurd (cc)
-same_units_is (x ∷ a) [] e = absurd (cc)
-same_units_is (x ∷ a) (y ∷ b) e =
-    let (head, rest) = same_head x y (same_units a b) e in
-    let tail = same_units_is a b rest in
-    λ i. head i ∷ tail i
-
-pub same_units_refl : (a : List ℕ) → same_units a a ≡ true
-same_units_refl [] = refl
-same_units_refl (x ∷ a) = let h = same_units_refl a in let s : eqb x x ≡ true = grind (arith, nat_tests) in and_of (eqb x x) (same_units a a) s h
-
--- ---- paths
-
-pub path_trans : (a b c : List (List ℕ)) → path_lt a b ≡ true → path_lt b c ≡ true → path_lt a c ≡ true
-path_trans a b [] p q = absurd (cc)
-path_trans a [] (z ∷ c) p q = absurd (cc)
-path_trans [] (y ∷ b) (z ∷ c) p q = refl
-path_trans (x ∷ a) (y ∷ b) (z ∷ c) p q = by (or_cases (units_lt x y) (same_units x y && path_lt a b) p) (or_cases (units_lt y z) (same_units y z && path_lt b c) q) (path_trans a b c)
-  where
-    here : units_lt x z ≡ true → (units_lt x z || (same_units x z && path_lt a c)) ≡ true
-    here e = or_left (units_lt x z) (same_units x z && path_lt a c) e
-
-    by : (units_lt x y ≡ true) ⊎ ((same_units x y && path_lt a b) ≡ true) → (units_lt y z ≡ true) ⊎ ((same_units y z && path_lt b c) ≡ true)
-        → (path_lt a b ≡ true → path_lt b c ≡ true → path_lt a c ≡ true) → (units_lt x z || (same_units x z && path_lt a c)) ≡ true
-    by (inl e) (inl f) more = here (units_trans x y z e f)
-    by (inl e) (inr f) more = here (subst (λ n. units_lt x n ≡ true) (same_units_is y z (and_parts (same_units y z) (path_lt b c) f).0) e)
-    by (inr e) (inl f) more = here (subst (λ n. units_lt n z ≡ true) (sym (same_units_is x y (and_parts (same_units x y) (path_lt a b) e).0)) f)
-    by (inr e) (inr f) more =
-        let (s, l) = and_parts (same_units x y) (path_lt a b) e in
-        let (s', l') = and_parts (same_units y z) (path_lt b c) f in
-        let same : same_units x z ≡ true = subst (λ n. same_units x n ≡ true) (same_units_is y z s') s in
-        or_right (units_lt x z) (same_units x z && path_lt a c) (and_of (same_units x z) (path_lt a c) same (more l l'))
-
-pub path_irrefl : (a : List (List ℕ)) → path_lt a a ≡ true → ⊥
-path_irrefl [] p = absurd (cc)
-path_irrefl (x ∷ a) p = elim (or_cases (units_lt x x) (same_units x x && path_lt a a) p) [
-  | inl e ↦ units_irrefl x e
-  | inr e ↦ path_irrefl a (and_parts (same_units x x) (path_lt a a) e).1
-]
-
--- a row's path is the lower
-abbrev pub Above : Row → Row → Type 0
-Above r q = path_lt r.path q.path ≡ true
-
-pub by_path : (rows : List Row) → IsByPath rows → Sorted Above rows
-by_path [] h = tt
-by_path (r ∷ rs) h = (h.0, by_path rs h.1)
 
 -- ---- sorting
 

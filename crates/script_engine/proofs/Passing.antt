@@ -13,8 +13,10 @@ use Rattle.world_model.proofs.Growth.{grows_refl, grows_trans, step_grows}
 use Rattle.world_model.proofs.Lives.{step_beside}
 use Rattle.world_model.proofs.Steps.{step_keeps}
 use Rattle.script_engine.specs.Sound.{AreLists, IsSoundWorld}
-use Rattle.script_engine.specs.Refusals.{Refusal}
-use Rattle.script_engine.specs.Consuming.{Consumed, Made, Skipped, ConsumesAll, ConsumesNext, ConsumesOne}
+use Rattle.script_engine.specs.declared.refusal.Refusal.{Refusal}
+use Rattle.script_engine.specs.declared.consumed.Consumed.{Consumed}
+use Rattle.script_engine.specs.declared.consumed.Consumed.TheVariants.{Made, Skipped}
+use Rattle.script_engine.specs.Consuming.{ConsumesAll, ConsumesNext, ConsumesOne}
 use Rattle.script_engine.specs.Pulling.{Ends, GoesOn, Pulls, Takes, TakesFiles, TakesPages}
 use Rattle.script_engine.proofs.Vectors.{HasVector, vector_both, vector_plus}
 use Rattle.script_engine.proofs.Volumes.{local_lists}

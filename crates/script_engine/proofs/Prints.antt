@@ -23,14 +23,17 @@ use Rattle.world_model.proofs.Facts.{none_some}
 use Rattle.script_engine.specs.Scene.{Scene, IsNamed, fresh_scene, in_world, place_of, with_name}
 use Rattle.script_engine.specs.Sound.{IsSoundScene}
 use Rattle.script_engine.specs.Printed.{printed, record_words, vector_words}
-use Rattle.script_engine.specs.Refusals.{Refusal, Exists, Itself, Local, Unknown, first_refusal, refused_text, unless_named}
+use Rattle.script_engine.specs.declared.refusal.Refusal.{Refusal}
+use Rattle.script_engine.specs.declared.refusal.Refusal.TheVariants.{Exists, Itself, Local, Unknown}
+use Rattle.script_engine.specs.Refusals.{first_refusal, refused_text, unless_named}
 use Rattle.script_engine.specs.Trees.{IsTreeOf, Row, tree_text}
 use Rattle.script_engine.specs.Text.{Acts, Changes, Consumes, Counts, Does, IsRefused, Operates, PrintsTree, Run, Shows, count_text, filled, last_text, text_unless, usn_text}
 use Rattle.script_engine.specs.Scripts.{EveryLinePrints}
 use Rattle.script_engine.proofs.Going.{consumes_all_some, consumes_next_some, pulls_some}
 use Rattle.script_engine.proofs.Passing.{passes_local}
-use Rattle.script_engine.proofs.Records.{records_some}
+use Rattle.script_engine.proofs.Listed.{records_some}
 use Rattle.script_engine.proofs.Scenes.{fresh_scene_sound, run_keeps}
+use Rattle.script_engine.proofs.Sorting.{some_tree}
 
 -- ---- names
 
@@ -91,12 +94,8 @@ consumes_some s name d moment h = let (done, why, w, next) = consumes_next_some 
 
 -- ---- lines
 
--- each volume has a tree
-abbrev pub HasTrees : Type 0
-HasTrees = (v : State) (m : Maps) → IsVolume v → Stands v m → (rows : List Row) × IsTreeOf m rows
-
-tree_some : HasTrees → (s : Scene) (d : ℕ) → IsSoundScene s → (rows : List Row) × IsTreeOf (s.world.at d).volume rows
-tree_some trees s d h = let (v, l) = h.world.volumes d in trees v (s.world.at d).volume l.valid l.stands
+tree_some : (s : Scene) (d : ℕ) → IsSoundScene s → (rows : List Row) × IsTreeOf (s.world.at d).volume rows
+tree_some s d h = let (v, l) = h.world.volumes d in some_tree v (s.world.at d).volume l.valid l.stands
 
 -- what a named member does
 by_name : (s : Scene) (name : List ℕ) (P : ℕ → List ℕ → Scene → Type 0) → unless_named s name ≡ None → ((d : ℕ) → Leads (P d)) → Leads (λ text new. (d : ℕ) × IsNamed s name d × P d text new)
@@ -115,43 +114,43 @@ pull_named s name other e = by (place_of s.names name) (place_of s.names other) 
     by (Some k) (Some j) false at from apart q =
         (database_of (k + 1), database_of (j + 1), (k, at, refl), (j, from, refl), named_apart s name other (database_of (k + 1)) (database_of (j + 1)) apart (k, at, refl) (j, from, refl))
 
-acts_some : HasTrees → (s : Scene) (line : Line) → IsSoundScene s → IsLine line → first_refusal s line ≡ None → Leads (Acts s line)
-acts_some trees s (lines.Member name kind) h form e = (printed (codes "ok" ∷ []), with_name s name kind, (refl, refl))
-acts_some trees s (lines.Put name path bytes) h form e = by_name s name (λ d. Operates s d (op.Put path bytes)) e (λ d. operates_some s d (op.Put path bytes) h)
-acts_some trees s (lines.Fill name path count) h form e = by_name s name (λ d. Operates s d (op.Put path (filled count))) e (λ d. operates_some s d (op.Put path (filled count)) h)
-acts_some trees s (lines.Mkdir name path) h form e = by_name s name (λ d. Operates s d (op.Mkdir path)) e (λ d. operates_some s d (op.Mkdir path) h)
-acts_some trees s (lines.Move name from to) h form e = by_name s name (λ d. Operates s d (op.Move from to)) e (λ d. operates_some s d (op.Move from to) h)
-acts_some trees s (lines.Remove name path) h form e = by_name s name (λ d. Operates s d (op.Remove path)) e (λ d. operates_some s d (op.Remove path) h)
-acts_some trees s (lines.Consume name moment) h form e = by_name s name (λ d. Consumes s name d moment) e (λ d. consumes_some s name d moment h)
-acts_some trees s (lines.Change name path moment) h form e = by_name s name (λ d. Changes s name d (op.Put path []) moment) e (λ d. changes_some s name d (op.Put path []) moment form.2 h)
-acts_some trees s (lines.Pull name other) h form e =
+acts_some : (s : Scene) (line : Line) → IsSoundScene s → IsLine line → first_refusal s line ≡ None → Leads (Acts s line)
+acts_some s (lines.Member name kind) h form e = (printed (codes "ok" ∷ []), with_name s name kind, (refl, refl))
+acts_some s (lines.Put name path bytes) h form e = by_name s name (λ d. Operates s d (op.Put path bytes)) e (λ d. operates_some s d (op.Put path bytes) h)
+acts_some s (lines.Fill name path count) h form e = by_name s name (λ d. Operates s d (op.Put path (filled count))) e (λ d. operates_some s d (op.Put path (filled count)) h)
+acts_some s (lines.Mkdir name path) h form e = by_name s name (λ d. Operates s d (op.Mkdir path)) e (λ d. operates_some s d (op.Mkdir path) h)
+acts_some s (lines.Move name from to) h form e = by_name s name (λ d. Operates s d (op.Move from to)) e (λ d. operates_some s d (op.Move from to) h)
+acts_some s (lines.Remove name path) h form e = by_name s name (λ d. Operates s d (op.Remove path)) e (λ d. operates_some s d (op.Remove path) h)
+acts_some s (lines.Consume name moment) h form e = by_name s name (λ d. Consumes s name d moment) e (λ d. consumes_some s name d moment h)
+acts_some s (lines.Change name path moment) h form e = by_name s name (λ d. Changes s name d (op.Put path []) moment) e (λ d. changes_some s name d (op.Put path []) moment form.2 h)
+acts_some s (lines.Pull name other) h form e =
     let (p, q, at, from, apart) = pull_named s name other e in
     let (taken, why, w, pulls) = pulls_some s.world p q h.world apart in
     (text_unless why (printed (codes "pulled" ∷ decimal taken ∷ [])), in_world s w, (p, q, taken, why, w, at, from, pulls, refl, refl))
-acts_some trees s (lines.Show name) h form e =
+acts_some s (lines.Show name) h form e =
     let (d, named) = named_some s name e in
     let (vector, v) = h.world.vectors d in
     let (records, l) = records_some s.world d h.world.invariant.versions in
     (_, s, (d, named, (vector, records, v, l, refl), refl))
-acts_some trees s (lines.Tree name) h form e =
+acts_some s (lines.Tree name) h form e =
     let (d, named) = named_some s name e in
-    let (rows, is) = tree_some trees s d h in
+    let (rows, is) = tree_some s d h in
     (tree_text rows, s, (d, named, (rows, is, refl), refl))
-acts_some trees s (lines.Count name) h form e =
+acts_some s (lines.Count name) h form e =
     let (d, named) = named_some s name e in
     let (vector, v) = h.world.vectors d in
     let (records, l) = records_some s.world d h.world.invariant.versions in
-    let (rows, is) = tree_some trees s d h in
+    let (rows, is) = tree_some s d h in
     (count_text records rows vector, s, (d, named, (vector, records, rows, v, l, is, refl), refl))
 
 -- each line prints something in every sound scene
-pub line_prints : HasTrees → (s : Scene) (line : Line) → IsSoundScene s → IsLine line → Leads (Does s line)
-line_prints trees s line h form = by (first_refusal s line) refl
+pub line_prints : (s : Scene) (line : Line) → IsSoundScene s → IsLine line → Leads (Does s line)
+line_prints s line h form = by (first_refusal s line) refl
   where
     by : (o : Option Refusal) → first_refusal s line ≡ o → Leads (Does s line)
-    by None e = let (text, new, acts) = acts_some trees s line h form e in (text, new, subst (λ o. MatchOption o (Acts s line text new) (λ why. IsRefused s why text new)) (sym e) acts)
+    by None e = let (text, new, acts) = acts_some s line h form e in (text, new, subst (λ o. MatchOption o (Acts s line text new) (λ why. IsRefused s why text new)) (sym e) acts)
     by (Some why) e = (refused_text why, s, subst (λ o. MatchOption o (Acts s line (refused_text why) s) (λ why'. IsRefused s why' (refused_text why) s)) (sym e) (refl, refl))
 
 -- in every scene that a run reaches
-pub every_line : HasTrees → EveryLinePrints
-every_line trees before said s all run line form = line_prints trees s line (run_keeps fresh_scene before said s fresh_scene_sound all run) form
+pub every_line : EveryLinePrints
+every_line before said s all run line form = line_prints s line (run_keeps fresh_scene before said s fresh_scene_sound all run) form

@@ -31,9 +31,12 @@ use Rattle.world_model.proofs.Growth.{grows_refl, grows_trans, member_grows}
 use Rattle.world_model.proofs.Versions.{same_consumed}
 use Rattle.script_engine.specs.Scene.{Scene, IsNamed, fresh_scene, in_world, with_name}
 use Rattle.script_engine.specs.Sound.{AreLists, IsNobodys, IsSoundScene, IsSoundWorld}
-use Rattle.script_engine.specs.Refusals.{Refusal, Local, first_refusal}
+use Rattle.script_engine.specs.declared.refusal.Refusal.{Refusal}
+use Rattle.script_engine.specs.declared.refusal.Refusal.TheVariants.{Local}
+use Rattle.script_engine.specs.Refusals.{first_refusal}
 use Rattle.script_engine.specs.Text.{Acts, Changes, Consumes, Does, IsRefused, Operates, Run, filled, last_text, text_unless, usn_text}
-use Rattle.script_engine.specs.Consuming.{Consumed, ConsumesAll}
+use Rattle.script_engine.specs.declared.consumed.Consumed.{Consumed}
+use Rattle.script_engine.specs.Consuming.{ConsumesAll}
 use Rattle.script_engine.specs.Scripts.{FreshScenesAreSound, LinesKeepScenesSound, RunsKeepScenesSound}
 use Rattle.script_engine.proofs.Passing.{Passes, consumes_all_passes, consumes_next_passes, passes_local, passes_refl, passes_trans, pulls_pass}
 use Rattle.script_engine.proofs.Vectors.{HasVector, no_versions}

@@ -5,13 +5,11 @@ use Rattle.frs_base.specs.declared.version.Gvsn.{Gvsn}
 use Rattle.record_db.specs.Records.{Versions, plus}
 use Rattle.world_model.specs.World.{World}
 use Rattle.world_model.specs.Events.{Records, consumes}
-use Rattle.script_engine.specs.Refusals.{Refusal, VectorFull}
+use Rattle.script_engine.specs.declared.consumed.Consumed.{Consumed}
+use Rattle.script_engine.specs.declared.consumed.Consumed.TheVariants.{Made, Skipped}
+use Rattle.script_engine.specs.declared.refusal.Refusal.{Refusal}
+use Rattle.script_engine.specs.declared.refusal.Refusal.TheVariants.{VectorFull}
 use Rattle.script_engine.specs.Widening.{Exceeds, Fits}
-
--- a record with this USN made an update, or made none
-pub data Consumed : Type 0 where
-  Made : ℕ → Consumed
-  Skipped : ℕ → Consumed
 
 -- no record is left
 abbrev pub IsAtEnd : World → ℕ → Type 0

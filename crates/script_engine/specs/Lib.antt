@@ -1,3 +1,4 @@
+pub mod Named
 pub mod Printed
 pub mod Scene
 pub mod Refusals
@@ -5,6 +6,8 @@ pub mod Widening
 pub mod Consuming
 pub mod Pulling
 pub mod Trees
+pub mod Rows
+pub mod Laws
 pub mod Text
 pub mod Sound
 pub mod Scripts

@@ -12,7 +12,8 @@ use Rattle.name_rules.specs.Next.{IsPending}
 use Rattle.world_model.specs.World.{World, IsRecordOf}
 use Rattle.world_model.specs.Events.{Step, SendVector, SendUpdate, Adopt, Finish, IsOfFile}
 use Rattle.world_model.specs.Rounds.{IsWanted}
-use Rattle.script_engine.specs.Refusals.{Refusal, NotYet, VectorFull}
+use Rattle.script_engine.specs.declared.refusal.Refusal.{Refusal}
+use Rattle.script_engine.specs.declared.refusal.Refusal.TheVariants.{NotYet, VectorFull}
 use Rattle.script_engine.specs.Widening.{Exceeds, Fits}
 
 -- ---- pages

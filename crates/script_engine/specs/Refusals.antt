@@ -4,23 +4,10 @@ use Rattle.vol_state.specs.declared.operation.Refused.{Refused}
 use Rattle.vol_state.specs.declared.operation.Refused.TheVariants.{TooLarge, NoPath, NotDirectory, Looped, NameTaken, NotEmpty}
 use Rattle.script_lang.specs.declared.line.Line.{Line}
 use Rattle.script_lang.specs.declared.line.Line.TheVariants as lines
+use Rattle.script_engine.specs.declared.refusal.Refusal.{Refusal}
+use Rattle.script_engine.specs.declared.refusal.Refusal.TheVariants.{Unknown, Exists, Itself, Local, NotYet, VectorFull}
 use Rattle.script_engine.specs.Printed.{printed}
 use Rattle.script_engine.specs.Scene.{Scene, place_of}
-
--- why, and the value that is printed
-pub data Refusal : Type 0 where
-  -- no member has this name
-  Unknown : List ℕ → Refusal
-  -- a member has this name already
-  Exists : List ℕ → Refusal
-  -- the member and its partner are one
-  Itself : Refusal
-  -- the table of local operations
-  Local : Refused → Refusal
-  -- a local record of the file isn't consumed, the last with this USN
-  NotYet : ℕ → Refusal
-  -- the member's vector would have so many intervals, more than 65,536
-  VectorFull : ℕ → Refusal
 
 -- the words of a local operation's refusal: its number, its word, its value
 abbrev pub local_words : Refused → List (List ℕ)

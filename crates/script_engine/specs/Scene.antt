@@ -4,11 +4,21 @@ use Rattle.frs_base.specs.Identifiers.{database_of}
 use Rattle.frs_base.specs.declared.kind.MemberKind.{MemberKind}
 use Rattle.frs_base.specs.declared.kind.MemberKind.TheVariants.{Plain}
 use Rattle.world_model.specs.World.{World, fresh_world, with_member}
+use Rattle.script_engine.specs.declared.names.MemberName.{MemberName}
 
 -- the members' names, in the order of their lines, and the world: the k-th member, from 1, has the k-th database
 pub record Scene : Type 0 where
   pub names : List (List ℕ)
   pub world : World
+
+-- names, each with its member's database, from the k-th on
+abbrev pub numbered : ℕ → List (List ℕ) → List MemberName
+numbered k [] = []
+numbered k (name ∷ names) = record { db = database_of k; name = name } ∷ numbered (k + 1) names
+
+-- the members' names with their databases
+abbrev pub members_of : Scene → List MemberName
+members_of s = numbered 1 s.names
 
 -- before the first line
 abbrev pub fresh_scene : Scene

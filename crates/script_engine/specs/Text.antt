@@ -14,14 +14,27 @@ use Rattle.script_lang.specs.declared.line.Line.TheVariants as lines
 use Rattle.world_model.specs.World.{World, IsRecordOf}
 use Rattle.world_model.specs.Events.{Step, Local as LocalEvent}
 use Rattle.script_engine.specs.Printed.{printed, record_words, vector_words}
-use Rattle.script_engine.specs.Scene.{Scene, IsNamed, fresh_scene, in_world, with_name}
-use Rattle.script_engine.specs.Refusals.{Refusal, Local, first_refusal, refused_text}
+use Rattle.script_engine.specs.declared.names.MemberName.{MemberName}
+use Rattle.script_engine.specs.declared.consumed.Consumed.{Consumed}
+use Rattle.script_engine.specs.declared.consumed.Consumed.TheVariants.{Made, Skipped}
+use Rattle.script_engine.specs.declared.refusal.Refusal.{Refusal}
+use Rattle.script_engine.specs.declared.refusal.Refusal.TheVariants.{Local}
+use Rattle.script_engine.specs.Scene.{Scene, IsNamed, fresh_scene, in_world, members_of, with_name}
+use Rattle.script_engine.specs.Refusals.{first_refusal, refused_text}
 use Rattle.script_engine.specs.Widening.{IsVectorOf}
-use Rattle.script_engine.specs.Consuming.{Consumed, Made, Skipped, ConsumesAll, ConsumesNext}
+use Rattle.script_engine.specs.Consuming.{ConsumesAll, ConsumesNext}
 use Rattle.script_engine.specs.Pulling.{Pulls}
 use Rattle.script_engine.specs.Trees.{IsTreeOf, Row, files_in, tree_text}
 
 -- ---- what is printed
+
+-- the line of a vector
+abbrev pub vector_text : List MemberName → List Interval → List ℕ
+vector_text names vector = printed (codes "vector" ∷ vector_words names vector)
+
+-- the lines of records
+abbrev pub records_text : List MemberName → List Update → List ℕ
+records_text names records = flat_map (λ u. printed (record_words names u)) records
 
 -- the member's name, a colon, the version
 abbrev pub own_word : List ℕ → ℕ → List ℕ
@@ -87,7 +100,7 @@ Changes s name d operation moment text new = (answer : Result VolCmd Refused) ×
 -- the vector of K, and Winners(Covered(All, K)) by UID
 abbrev pub Shows : Scene → ℕ → List ℕ → Type 0
 Shows s d text = (vector : List Interval) × (records : List Update) × IsVectorOf (s.world.at d).known vector × Lists (IsRecordOf s.world d) records
-    × (text ≡ printed (codes "vector" ∷ vector_words s.names vector) ++ flat_map (λ u. printed (record_words s.names u)) records)
+    × (text ≡ vector_text (members_of s) vector ++ records_text (members_of s) records)
 
 -- what is reached from the root of its volume
 abbrev pub PrintsTree : Scene → ℕ → List ℕ → Type 0

@@ -16,5 +16,6 @@ mod Walks
 mod Hinted
 mod Numbering
 pub mod Standing
+mod Recent
 pub mod Tabling
 pub mod Waying

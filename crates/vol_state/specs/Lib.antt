@@ -15,3 +15,4 @@ pub mod Seen
 pub mod Maps
 pub mod Tables
 pub mod Ways
+pub mod Pending

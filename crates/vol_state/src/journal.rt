@@ -1,8 +1,8 @@
 // The journal of a volume.
-ghost use Rattle.std.specs.Prelude.{◌≡◌, ◌<◌, ◌==◌, ◌&&◌, ◌∷◌, ◌++◌, [], true, ◌+◌, length, OnOk, find, option_copied, slice_get};
+ghost use Rattle.std.specs.Prelude.{◌≡◌, ◌<◌, ◌==◌, ◌&&◌, ◌∷◌, ◌++◌, [], true, ◌+◌, length, OnOk, filter, find, nat_le, option_copied, slice_get};
 ghost use Rattle.frs_base.specs.Versions.{same_uid};
 ghost use Rattle.vol_state.specs.Rows.{items_of, room_of};
-ghost use Rattle.vol_state.specs.Journal.{RunsFrom, last_local, record_at};
+ghost use Rattle.vol_state.specs.Journal.{RunsFrom, last_local, pending_local, record_at};
 
 use crate::VolRecord;
 use crate::rows::{items, push_reserved, reserve_one};
@@ -54,26 +54,36 @@ fn record_by_index(records: &[VolRecord], usn: u64) -> Option<&VolRecord>
     get(records, (usn - FIRST_USN) as usize)
 }
 
-/// The record is a local one of this UID.
-fn is_local_of(entry: &VolRecord, uid: &Uid) -> bool
-    ensures { result ≡ (entry.now.local && same_uid entry.now.uid uid.now) }
+/// The record is a local one of this UID, at or past this USN.
+fn is_pending(entry: &VolRecord, uid: &Uid, from: u64) -> bool
+    ensures { result ≡ (nat_le from entry.now.usn && (entry.now.local && same_uid entry.now.uid uid.now)) }
 {
-    entry.local && entry.uid == *uid
+    from <= entry.usn && entry.local && entry.uid == *uid
 }
 
-/// The USN of the last local record of a UID. The newest records are looked at first.
-fn last_local(records: &[VolRecord], uid: Uid) -> Option<u64>
-    ensures { result ≡ last_local records.now uid }
+/// The USN of the last local record of a UID at or past a USN. The newest records are looked at
+/// first.
+fn last_pending(records: &[VolRecord], uid: Uid, from: u64) -> Option<u64>
+    ensures { result ≡ pending_local records.now uid from }
 {
     let mut left = records.len();
     while left > 0 {
         left -= 1;
         let record = &records[left];
-        if is_local_of(record, &uid) {
+        if is_pending(record, &uid, from) {
             return Some(record.usn);
         }
     }
     None
+}
+
+/// The records from a USN on, where they run from the first.
+fn records_from(records: &[VolRecord], from: u64) -> &[VolRecord]
+    requires { RunsFrom 9 records.now }
+    ensures { filter (λ r. nat_le from r.usn) result.now ≡ filter (λ r. nat_le from r.usn) records.now }
+{
+    let before = from.saturating_sub(FIRST_USN) as usize;
+    &records[before.min(records.len())..]
 }
 
 /// The USNs run, and a record with this one goes on.
@@ -115,7 +125,18 @@ impl Journal {
     pub(crate) fn last_local(&self, uid: Uid) -> Option<u64>
         ensures { result ≡ last_local self.now.items uid }
     {
-        last_local(self.as_slice(), uid)
+        last_pending(self.as_slice(), uid, 0)
+    }
+
+    /// The USN of the last local record of a UID at or past a USN.
+    pub(crate) fn pending_local(&self, uid: Uid, from: u64) -> Option<u64>
+        ensures { result ≡ pending_local self.now.items uid from }
+    {
+        if self.runs {
+            let recent = records_from(items(&self.records), from);
+            return last_pending(recent, uid, from);
+        }
+        last_pending(self.as_slice(), uid, from)
     }
 
     /// Makes room for one more record.

@@ -1,6 +1,7 @@
 // Laws of the definitions.
 ghost use Rattle.vol_state.specs.Laws.{KeepsNumbering, LeavesNumbersFree};
 ghost use Rattle.vol_state.specs.Maps.{BeginsStanding, StandsOn};
+ghost use Rattle.vol_state.specs.Pending.{PendingIsLast};
 ghost use Rattle.vol_state.specs.Tables.{TablesAreTests, TestsAreTables};
 ghost use Rattle.vol_state.specs.Ways.{ListsResolve, ResolvedMay, ResolvesToOne};
 
@@ -53,4 +54,10 @@ pub fn operations_resolve_to_one()
 /// A command that a local operation comes to may be done.
 pub fn resolved_commands_may_be_done()
     ensures { ResolvedMay }
+{}
+
+/// The last local record of a UID at or past a USN is the last over the maps for which the volume
+/// stands.
+pub fn pending_records_are_last()
+    ensures { PendingIsLast }
 {}
