@@ -1,6 +1,7 @@
 // What is reached from the root of a volume.
 ghost use Rattle.std.specs.Prelude.{◌≡◌, List, IfOk, length, map, option_map, vec_len};
 ghost use Rattle.vol_state.specs.Maps.{maps_of};
+ghost use Rattle.vol_state.specs.Valid.{IsVolume};
 ghost use Rattle.script_engine.specs.Rows.{names_up, path_cmp, row_of, rows_of};
 ghost use Rattle.script_engine.specs.Trees.{IsTreeOf, files_in};
 
@@ -89,7 +90,8 @@ fn row_of<'a>(
 
 /// The rows, in order of the objects' numbers.
 fn rows_of<'a>(alloc: Global, volume: &'a Volume) -> Result<Vec<TreeRow<'a>>, AllocError>
-    ensures { IfOk result (λ rows. rows.items ≡ rows_of volume.now.state.objects) }
+    ensures valid { IsVolume volume.now.state }
+    ensures rows { IfOk result (λ rows. rows.items ≡ rows_of volume.now.state.objects) }
 {
     let mut rows = Vec::new(alloc);
     for object in volume.objects() {

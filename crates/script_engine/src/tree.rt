@@ -1,6 +1,7 @@
 // What `tree` prints.
-ghost use Rattle.std.specs.Prelude.{◌≡◌, List, IfOk, map, string_bytes};
+ghost use Rattle.std.specs.Prelude.{◌≡◌, ◌∷◌, [], List, IfOk, codes, decimal, map, string_bytes};
 ghost use Rattle.vol_state.specs.Maps.{maps_of};
+ghost use Rattle.script_engine.specs.Printed.{printed};
 ghost use Rattle.script_engine.specs.Trees.{IsTreeOf, Row, path_word, row_text, tree_text};
 
 use crate::TreeRow;
@@ -26,6 +27,13 @@ fn path_word(alloc: Global, path: &[&Name]) -> Result<String, AllocError>
     Ok(text)
 }
 
+/// The line of a file.
+fn file_text(alloc: Global, path: &str, length: usize) -> Result<String, AllocError>
+    ensures { IfOk result (λ text. string_bytes text ≡ printed (codes "f" ∷ path.now ∷ decimal length ∷ [])) }
+{
+    format!(in alloc; "f {path} {length}\n")
+}
+
 /// The line of a row: `d` and the path of a directory, or `f`, the path and the length of a file.
 fn row_text(alloc: Global, row: &TreeRow) -> Result<String, AllocError>
     ensures { IfOk result (λ text. string_bytes text ≡ row_text row.now) }
@@ -34,10 +42,7 @@ fn row_text(alloc: Global, row: &TreeRow) -> Result<String, AllocError>
     let object = row.object();
     match object.kind {
         Kind::Directory => format!(in alloc; "d {path}\n"),
-        Kind::File => {
-            let length = object.bytes.as_slice().len();
-            format!(in alloc; "f {path} {length}\n")
-        }
+        Kind::File => file_text(alloc, path.as_str(), object.bytes.as_slice().len()),
     }
 }
 
