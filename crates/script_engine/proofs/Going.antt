@@ -6,14 +6,13 @@ use Rattle.frs_base.specs.Options.{In}
 use Rattle.frs_base.specs.declared.version.Uid.{Uid}
 use Rattle.win_order.specs.declared.update.Update.{Update}
 use Rattle.vol_state.specs.declared.record.VolRecord.{VolRecord}
-use Rattle.record_db.specs.Records.{Covered, IsHeldOrBeaten, IsRecord, Versions, both, plus}
+use Rattle.record_db.specs.Records.{IsHeldOrBeaten, IsRecord, Versions, both, plus}
 use Rattle.record_db.proofs.Best.{covered_held, held_is}
 use Rattle.record_db.proofs.Keys.{uid_cases}
 use Rattle.name_rules.specs.Next.{IsPending}
-use Rattle.name_rules.specs.Recorded.{base_fence, recorded_of}
 use Rattle.name_rules.specs.Tree.{is_file}
 use Rattle.world_model.specs.World.{Member, World, IsRecordOf, with_member}
-use Rattle.world_model.specs.Events.{IsAllHeld, IsOfFile, IsOfPage, Records, Step, SendVector, WasSentVector, adopted_by, consumed_by, consumes, finished_by, sends_update, sends_vector}
+use Rattle.world_model.specs.Events.{IsAllHeld, IsOfFile, IsOfPage, Records, WasSentVector, adopted_by, consumed_by, consumes, finished_by, sends_update, sends_vector}
 use Rattle.world_model.specs.Rounds.{IsWanted}
 use Rattle.world_model.specs.Runs.{Grows}
 use Rattle.world_model.proofs.Changing.{at_same}
@@ -25,10 +24,10 @@ use Rattle.script_engine.specs.declared.refusal.Refusal.TheVariants.{NotYet, Vec
 use Rattle.script_engine.specs.declared.consumed.Consumed.{Consumed}
 use Rattle.script_engine.specs.declared.consumed.Consumed.TheVariants.{Made, Skipped}
 use Rattle.script_engine.specs.Consuming.{ConsumesAll, ConsumesNext, ConsumesOne, IsAtEnd, IsTooWide, widened}
-use Rattle.script_engine.specs.Pulling.{Ends, GoesOn, IsAsked, IsLastPending, IsTooMuch, Pulls, Takes, TakesFiles, TakesPages}
+use Rattle.script_engine.specs.Pulling.{Ends, GoesOn, IsAsked, IsLastPending, Pulls, Takes, TakesFiles, TakesPages}
 use Rattle.script_engine.specs.Widening.{Exceeds, Fits}
-use Rattle.script_engine.proofs.Once.{record_one, takes_wanted}
-use Rattle.script_engine.proofs.Passing.{Passes, consumes_one_passes, files_pass, pages_pass, passes_consume, passes_trans, passes_update, passes_vector, takes_passes}
+use Rattle.script_engine.proofs.Once.{record_one}
+use Rattle.script_engine.proofs.Passing.{Passes, files_pass, pages_pass, passes_consume, passes_trans, passes_update, passes_vector, takes_passes}
 use Rattle.script_engine.proofs.Listed.{page_some, wanted_or}
 use Rattle.script_engine.proofs.Vectors.{HasVector, fits_or_exceeds, vector_both, vector_plus}
 

@@ -1,26 +1,24 @@
 -- What is recorded is covered, and stays so.
-use Rattle.std.proofs.Common.{◌≡◌, ◌≢◌, ◌<◌, ◌≤◌, ◌+◌, ◌++◌, ◌⊎◌, ℕ, zero, suc, true, List, [], ◌∷◌, length, refl, sym, ap, ◌∙◌, subst, arith, inl, inr, Option, Some, None, All}
+use Rattle.std.proofs.Common.{◌≡◌, ◌≢◌, ◌<◌, ◌+◌, ◌++◌, ◌⊎◌, ℕ, zero, suc, List, [], ◌∷◌, length, sym, ap, ◌∙◌, subst, arith, inl, inr, Some, All}
 use Rattle.std.specs.Prelude.{slice_get}
 use Rattle.std.proofs.lemmas.Bool.{cases_eq}
 use Rattle.std.proofs.lemmas.List.Elements.{All-head, All-tail}
 use Rattle.frs_base.specs.Identifiers.{database_of}
 use Rattle.frs_base.specs.Options.{In}
 use Rattle.frs_base.specs.declared.kind.MemberKind.{MemberKind}
-use Rattle.frs_base.specs.declared.version.Gvsn.{Gvsn}
 use Rattle.win_order.specs.declared.update.Update.{Update}
-use Rattle.record_db.specs.Lists.{Lists}
 use Rattle.record_db.proofs.Lists.{lists_one, lists_same}
 use Rattle.script_lang.specs.Grammar.{IsLine}
 use Rattle.script_lang.specs.declared.line.Line.{Line}
-use Rattle.world_model.specs.World.{Member, World, IsRecordOf, with_member}
+use Rattle.world_model.specs.World.{Member, IsRecordOf}
 use Rattle.world_model.specs.Runs.{Grows}
 use Rattle.world_model.proofs.Growth.{grows_refl, grows_trans, member_grows}
 use Rattle.world_model.proofs.Headline.{equal_records}
 use Rattle.script_engine.specs.Scene.{Scene, fresh_scene, with_name}
 use Rattle.script_engine.specs.Sound.{IsNobodys, IsSoundScene}
 use Rattle.script_engine.specs.Text.{Does, Run}
-use Rattle.script_engine.specs.Scripts.{EqualRecords, IsCovered, Lasts, RecordedIsCovered, StaysCovered}
-use Rattle.script_engine.proofs.Scenes.{Follows, does_follow, fresh_scene_sound, line_keeps, run_keeps}
+use Rattle.script_engine.specs.Scripts.{EqualRecords, IsCovered, RecordedIsCovered, StaysCovered}
+use Rattle.script_engine.proofs.Scenes.{does_follow, fresh_scene_sound, line_keeps, run_keeps}
 
 -- ---- what only grows
 

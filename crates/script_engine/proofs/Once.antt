@@ -1,48 +1,27 @@
 -- What is consumed and what is pulled is one.
-use Rattle.std.proofs.Common.{◌≡◌, ◌≢◌, ◌<◌, ◌≤◌, ◌+◌, ◌^◌, ◌++◌, ◌⊎◌, ℕ, Bool, true, false, List, [], ◌∷◌, length, refl, sym, ap, ◌∙◌, subst, arith, inl, inr, Option, Some, None, MatchOption, Result, Ok, Err, All}
-use Rattle.std.specs.Prelude.{MatchResult, codes, decimal, flat_map}
-use Rattle.std.proofs.lemmas.List.Elements.{All-head, All-tail}
-use Rattle.frs_base.specs.Identifiers.{database_of}
-use Rattle.frs_base.specs.Options.{In}
+use Rattle.std.proofs.Common.{◌≡◌, ◌<◌, ◌+◌, ◌^◌, ◌⊎◌, ℕ, List, [], ◌∷◌, refl, sym, ap, ◌∙◌, subst, arith, inl, inr, Option, Some, None}
 use Rattle.win_order.specs.declared.update.Update.{Update}
 use Rattle.vol_state.specs.declared.record.VolRecord.{VolRecord}
-use Rattle.vol_state.specs.declared.command.VolCmd.{VolCmd}
-use Rattle.vol_state.specs.declared.operation.LocalOp.{LocalOp}
-use Rattle.vol_state.specs.declared.operation.LocalOp.TheVariants as op
-use Rattle.vol_state.specs.declared.operation.Refused.{Refused}
-use Rattle.vol_state.specs.Maps.{Maps}
-use Rattle.vol_state.proofs.Waying.{resolves_to_one}
 use Rattle.record_db.specs.Records.{Covered, IsBetter, IsHeld, Versions, both, plus}
 use Rattle.record_db.proofs.Best.{best_one, one_held}
-use Rattle.record_db.proofs.Lists.{lists_one}
 use Rattle.name_rules.specs.Recorded.{base_fence, recorded_of}
 use Rattle.name_rules.specs.Tree.{is_file}
-use Rattle.script_lang.specs.Grammar.{IsLine}
-use Rattle.script_lang.specs.declared.line.Line.{Line}
-use Rattle.script_lang.specs.declared.line.Line.TheVariants as lines
 use Rattle.world_model.specs.World.{World, IsRecordOf, with_member}
-use Rattle.world_model.specs.Events.{IsOfFile, Records, Step, Local as LocalEvent, SendVector, adopted_by, consumes, finished_by}
+use Rattle.world_model.specs.Events.{IsOfFile, Records, adopted_by, consumes}
 use Rattle.world_model.specs.Invariant.{VersionsAreMade}
 use Rattle.world_model.specs.Rounds.{IsWanted}
 use Rattle.world_model.proofs.Facts.{none_some, some_is, true_false}
-use Rattle.script_engine.specs.Scene.{Scene, IsNamed, fresh_scene, in_world, place_of, with_name}
-use Rattle.script_engine.specs.Sound.{IsSoundScene, IsSoundWorld}
-use Rattle.script_engine.specs.Printed.{printed, record_words, vector_words}
+use Rattle.script_engine.specs.Sound.{IsSoundWorld}
 use Rattle.script_engine.specs.declared.refusal.Refusal.{Refusal}
-use Rattle.script_engine.specs.declared.refusal.Refusal.TheVariants.{Local, NotYet, VectorFull}
-use Rattle.script_engine.specs.Refusals.{first_refusal, refused_text}
+use Rattle.script_engine.specs.declared.refusal.Refusal.TheVariants.{NotYet, VectorFull}
 use Rattle.script_engine.specs.Widening.{Exceeds, Fits}
 use Rattle.script_engine.specs.declared.consumed.Consumed.{Consumed}
 use Rattle.script_engine.specs.declared.consumed.Consumed.TheVariants.{Made, Skipped}
 use Rattle.script_engine.specs.Consuming.{ConsumesAll, ConsumesNext, ConsumesOne, IsAtEnd, IsTooWide, widened}
 use Rattle.script_engine.specs.Pulling.{Ends, GoesOn, IsAsked, IsLastPending, Pulls, Takes, TakesFiles, TakesPages}
-use Rattle.script_engine.specs.Trees.{IsTreeOf, Row, tree_text}
-use Rattle.script_engine.specs.Text.{Acts, Changes, Consumes, Counts, Does, IsRefused, Operates, PrintsTree, Run, Shows, count_text, filled, last_text, text_unless, usn_text}
-use Rattle.script_engine.specs.Scripts.{LinesPrintOneText, OneText, RunsPrintOneText}
 use Rattle.script_engine.proofs.Orders.{Before, by_version, gvsn_irrefl, gvsn_trans, sorted_one}
-use Rattle.script_engine.proofs.Passing.{consumes_one_passes, pages_pass, passes_local, passes_vector, takes_passes}
-use Rattle.script_engine.proofs.Scenes.{fresh_scene_sound, line_keeps}
-use Rattle.script_engine.proofs.Vectors.{exceeds_one, not_both, vector_one}
+use Rattle.script_engine.proofs.Passing.{consumes_one_passes, pages_pass, passes_vector, takes_passes}
+use Rattle.script_engine.proofs.Vectors.{exceeds_one, not_both}
 
 -- ---- lists
 

@@ -1,5 +1,5 @@
 -- A line prints one text and leads to one scene.
-use Rattle.std.proofs.Common.{◌≡◌, ◌<◌, ◌+◌, ◌^◌, ◌++◌, ℕ, List, [], ◌∷◌, refl, sym, ap, ◌∙◌, subst, Option, Some, None, MatchOption, Result, Ok, Err, All}
+use Rattle.std.proofs.Common.{◌≡◌, ◌<◌, ◌+◌, ◌^◌, ◌++◌, ℕ, List, [], ◌∷◌, refl, sym, ap, ◌∙◌, subst, Option, Some, None, MatchOption, Result, Ok, Err}
 use Rattle.std.specs.Prelude.{MatchResult, codes, decimal, flat_map}
 use Rattle.std.proofs.lemmas.List.Elements.{All-head, All-tail}
 use Rattle.frs_base.specs.Identifiers.{database_of}
@@ -21,14 +21,14 @@ use Rattle.script_engine.specs.Sound.{IsSoundScene}
 use Rattle.script_engine.specs.Printed.{printed, record_words, vector_words}
 use Rattle.script_engine.specs.declared.refusal.Refusal.{Refusal}
 use Rattle.script_engine.specs.declared.refusal.Refusal.TheVariants.{Local}
-use Rattle.script_engine.specs.Refusals.{first_refusal, refused_text}
+use Rattle.script_engine.specs.Refusals.{first_refusal}
 use Rattle.script_engine.specs.declared.consumed.Consumed.{Consumed}
 use Rattle.script_engine.specs.Consuming.{ConsumesAll}
 use Rattle.script_engine.specs.Pulling.{Pulls}
 use Rattle.script_engine.specs.Trees.{tree_text}
-use Rattle.script_engine.specs.Text.{Acts, Changes, Consumes, Counts, Does, IsRefused, Operates, PrintsTree, Run, Shows, count_text, filled, last_text, text_unless, usn_text}
+use Rattle.script_engine.specs.Text.{Acts, Changes, Consumes, Counts, IsRefused, Operates, PrintsTree, Run, Shows, count_text, filled, last_text, text_unless, usn_text}
 use Rattle.script_engine.specs.Scripts.{LinesPrintOneText, OneText, RunsPrintOneText}
-use Rattle.script_engine.proofs.Once.{SameEnd, SameOn, consumes_all_one, next_by, next_one, pulls_one}
+use Rattle.script_engine.proofs.Once.{consumes_all_one, next_by, next_one, pulls_one}
 use Rattle.script_engine.proofs.Sorting.{one_tree}
 use Rattle.script_engine.proofs.Passing.{passes_local}
 use Rattle.script_engine.proofs.Scenes.{fresh_scene_sound, line_keeps}

@@ -1,5 +1,5 @@
 -- Sorted lists, and the orders of versions and of files.
-use Rattle.std.proofs.Common.{◌≡◌, ◌≢◌, ◌⊎◌, ◌&&◌, ◌||◌, ℕ, Bool, true, false, eqb, ltb, List, [], ◌∷◌, refl, sym, ap, ◌∙◌, subst, arith, inl, inr}
+use Rattle.std.proofs.Common.{◌≡◌, ◌⊎◌, Bool, true, false, List, [], ◌∷◌, refl, sym, ap, ◌∙◌, subst, arith, inl, inr}
 use Rattle.std.specs.List.{AllByRecursion}
 use Rattle.std.proofs.lemmas.Bool.Decides.{nat_tests}
 use Rattle.frs_base.specs.Options.{In}
@@ -9,9 +9,7 @@ use Rattle.frs_base.specs.declared.version.Uid.{Uid}
 use Rattle.win_order.specs.declared.update.Update.{Update}
 use Rattle.record_db.specs.Lists.{IsRising}
 use Rattle.record_db.proofs.Keys.{same_gvsn_is, same_uid_is, uid_total}
-use Rattle.record_db.proofs.Sets.{or_cases, or_left, or_right}
 use Rattle.script_engine.specs.Pulling.{IsByVersion}
-use Rattle.script_engine.specs.Trees.{IsByPath, Row, path_lt, same_units, units_lt}
 
 -- ---- lists in an order
 

@@ -1,10 +1,10 @@
 -- What the events of lines leave of a sound world.
-use Rattle.std.proofs.Common.{◌≡◌, ◌≢◌, ◌<◌, ◌+◌, ◌^◌, ◌⊎◌, ℕ, List, [], ◌∷◌, refl, sym, ap, ◌∙◌, subst, inl, inr, Option, Some, None}
+use Rattle.std.proofs.Common.{◌≡◌, ◌≢◌, ◌<◌, ◌^◌, ℕ, List, [], ◌∷◌, refl, sym, ◌∙◌, subst, inl, inr, Option, Some, None}
 use Rattle.win_order.specs.declared.update.Update.{Update}
 use Rattle.vol_state.specs.declared.command.VolCmd.{VolCmd}
 use Rattle.vol_state.specs.State.{State}
 use Rattle.vol_state.specs.Maps.{with_at}
-use Rattle.record_db.specs.Records.{Versions, both, plus}
+use Rattle.record_db.specs.Records.{Versions}
 use Rattle.world_model.specs.World.{Member, World}
 use Rattle.world_model.specs.Events.{Records, Step, Local, Consume, SendVector, SendUpdate, Adopt, Finish, adopted_by, consumed_by, consumes, finished_by, operated, sends_update, sends_vector}
 use Rattle.world_model.specs.Runs.{Grows}

@@ -1,6 +1,6 @@
 -- Every line prints something and leads on.
-use Rattle.std.proofs.Common.{◌≡◌, ◌≢◌, ◌<◌, ◌+◌, ◌^◌, ◌++◌, ◌⊎◌, ℕ, Bool, true, false, cond, List, [], ◌∷◌, get_or, refl, sym, ap, ◌∙◌, subst, arith, inl, inr, Option, Some, None, MatchOption, Result, Ok, Err, All}
-use Rattle.std.specs.Prelude.{MatchResult, bytes_eq, codes, decimal, flat_map, is_some}
+use Rattle.std.proofs.Common.{◌≡◌, ◌≢◌, ◌<◌, ◌+◌, ◌^◌, ℕ, Bool, true, false, cond, List, [], ◌∷◌, get_or, refl, sym, ap, ◌∙◌, subst, arith, Option, Some, None, MatchOption, Result, Ok, Err}
+use Rattle.std.specs.Prelude.{bytes_eq, codes, decimal, is_some}
 use Rattle.std.proofs.lemmas.List.Quantifiers.{position-Some}
 use Rattle.std.proofs.lemmas.Slice.Eq.{bytes_eq-Decides}
 use Rattle.frs_base.specs.Identifiers.{database_of}
@@ -8,10 +8,7 @@ use Rattle.vol_state.specs.declared.command.VolCmd.{VolCmd}
 use Rattle.vol_state.specs.declared.operation.LocalOp.{LocalOp}
 use Rattle.vol_state.specs.declared.operation.LocalOp.TheVariants as op
 use Rattle.vol_state.specs.declared.operation.Refused.{Refused}
-use Rattle.vol_state.specs.Maps.{Maps, Stands}
 use Rattle.vol_state.specs.Paths.{resolve}
-use Rattle.vol_state.specs.State.{State}
-use Rattle.vol_state.specs.Valid.{IsVolume}
 use Rattle.vol_state.specs.Ways.{Resolves}
 use Rattle.vol_state.proofs.Waying.{lists_resolve, resolved_may}
 use Rattle.script_lang.specs.Grammar.{IsLine}
@@ -22,12 +19,12 @@ use Rattle.world_model.specs.Events.{Step, Local as LocalEvent, operated}
 use Rattle.world_model.proofs.Facts.{none_some}
 use Rattle.script_engine.specs.Scene.{Scene, IsNamed, fresh_scene, in_world, place_of, with_name}
 use Rattle.script_engine.specs.Sound.{IsSoundScene}
-use Rattle.script_engine.specs.Printed.{printed, record_words, vector_words}
+use Rattle.script_engine.specs.Printed.{printed}
 use Rattle.script_engine.specs.declared.refusal.Refusal.{Refusal}
-use Rattle.script_engine.specs.declared.refusal.Refusal.TheVariants.{Exists, Itself, Local, Unknown}
+use Rattle.script_engine.specs.declared.refusal.Refusal.TheVariants.{Itself, Local, Unknown}
 use Rattle.script_engine.specs.Refusals.{first_refusal, refused_text, unless_named}
 use Rattle.script_engine.specs.Trees.{IsTreeOf, Row, tree_text}
-use Rattle.script_engine.specs.Text.{Acts, Changes, Consumes, Counts, Does, IsRefused, Operates, PrintsTree, Run, Shows, count_text, filled, last_text, text_unless, usn_text}
+use Rattle.script_engine.specs.Text.{Acts, Changes, Consumes, Does, IsRefused, Operates, count_text, filled, last_text, text_unless, usn_text}
 use Rattle.script_engine.specs.Scripts.{EveryLinePrints}
 use Rattle.script_engine.proofs.Going.{consumes_all_some, consumes_next_some, pulls_some}
 use Rattle.script_engine.proofs.Passing.{passes_local}
