@@ -15,3 +15,4 @@ pub mod Lasting
 pub mod Listed
 pub mod Going
 pub mod Prints
+pub mod Runs

@@ -1,5 +1,5 @@
 -- What holds of every script.
-use Rattle.std.specs.Prelude.{◌≡◌, ◌↔◌, ◌<◌, ◌+◌, ℕ, true, All, List, Some, length, slice_get}
+use Rattle.std.specs.Prelude.{◌≡◌, ◌↔◌, ◌<◌, ◌+◌, ◌++◌, ℕ, true, All, List, Some, length, slice_get, take}
 use Rattle.frs_base.specs.Identifiers.{database_of}
 use Rattle.frs_base.specs.Options.{In}
 use Rattle.frs_base.specs.declared.version.Gvsn.{Gvsn}
@@ -45,6 +45,14 @@ OneText = (script : List Line) (a b : List ℕ) → All IsLine script → Prints
 abbrev pub EveryLinePrints : Type 0
 EveryLinePrints = (before : List Line) (said : List ℕ) (s : Scene) → All IsLine before → Run fresh_scene before said s
     → (line : Line) → IsLine line → (text : List ℕ) × (new : Scene) × Does s line text new
+
+-- so every script in form has a text
+abbrev pub EveryScriptPrints : Type 0
+EveryScriptPrints = (script : List Line) → All IsLine script → (text : List ℕ) × Prints script text
+
+-- what some first lines print is a beginning of what all lines print
+abbrev pub BeginningsGoOn : Type 0
+BeginningsGoOn = (script : List Line) (n : ℕ) (said : List ℕ) → All IsLine script → Prints (take n script) said → (more : List ℕ) × Prints script (said ++ more)
 
 -- ---- what is covered
 

@@ -1,6 +1,6 @@
 // Laws of the definitions.
 ghost use Rattle.script_engine.specs.Laws.{TreesAreOne, VolumesHaveTrees};
-ghost use Rattle.script_engine.specs.Scripts.{EqualRecords, EveryLinePrints, FreshScenesAreSound, LinesKeepScenesSound, LinesPrintOneText, OneText, RecordedIsCovered, RunsKeepScenesSound, RunsPrintOneText, StaysCovered};
+ghost use Rattle.script_engine.specs.Scripts.{BeginningsGoOn, EqualRecords, EveryLinePrints, EveryScriptPrints, FreshScenesAreSound, LinesKeepScenesSound, LinesPrintOneText, OneText, RecordedIsCovered, RunsKeepScenesSound, RunsPrintOneText, StaysCovered};
 
 /// What is reached from the root of a volume, in order of the paths, is one list.
 pub fn trees_are_one()
@@ -44,10 +44,19 @@ pub fn one_text()
     ensures { OneText }
 {}
 
-/// In every scene that a run reaches, each line prints something and leads on. So a beginning of
-/// what some first lines print is a beginning of a whole text.
+/// In every scene that a run reaches, each line prints something and leads on.
 pub fn every_line_prints()
     ensures { EveryLinePrints }
+{}
+
+/// So every script in form has a text.
+pub fn every_script_prints()
+    ensures { EveryScriptPrints }
+{}
+
+/// What some first lines of a script print is a beginning of its whole text.
+pub fn beginnings_go_on()
+    ensures { BeginningsGoOn }
 {}
 
 /// In every scene that a run reaches, each recorded update is covered by the member whose database
