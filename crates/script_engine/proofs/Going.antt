@@ -80,14 +80,14 @@ consumes_more : (n : ℕ) (w : World) (d moment : ℕ) → moment < 2 ^ 61 → I
 consumes_more n w d moment early h most more made r = elim (one_or w d moment made h r) [
   | inr (count, wide) ↦ ([], Some (VectorFull count), w, inr (count, wide, refl, refl))
   | inl (c, one) ↦ (
-    let mid = consumes w d made in
-    let p = passes_consume w d moment made mid early h r refl in
-    let here : mid.at d ≡ consumed_by d made (w.at d) = at_same w.at d (consumed_by d made (w.at d)) in
-    let usn : (mid.at d).volume.next_usn ≡ (w.at d).volume.next_usn = ap (λ (x : Member). x.volume.next_usn) here in
-    let next : (mid.at d).consumed ≡ (w.at d).consumed + 1 = ap (λ (x : Member). x.consumed) here in
-    let (cs, why, new, all) = more mid p.sound (omega (arith, most, usn, next)) in
-    (c ∷ cs, why, new, (mid, one, all))
-  )
+      let mid = consumes w d made in
+      let p = passes_consume w d moment made mid early h r refl in
+      let here : mid.at d ≡ consumed_by d made (w.at d) = at_same w.at d (consumed_by d made (w.at d)) in
+      let usn : (mid.at d).volume.next_usn ≡ (w.at d).volume.next_usn = ap (λ (x : Member). x.volume.next_usn) here in
+      let next : (mid.at d).consumed ≡ (w.at d).consumed + 1 = ap (λ (x : Member). x.consumed) here in
+      let (cs, why, new, all) = more mid p.sound (omega (arith, most, usn, next)) in
+      (c ∷ cs, why, new, (mid, one, all))
+      )
 ]
 
 consumes_some_by : (n : ℕ) (w : World) (d moment : ℕ) → moment < 2 ^ 61 → IsSoundWorld w → (w.at d).volume.next_usn ≤ (w.at d).consumed + n → Consumes w d moment
@@ -212,10 +212,10 @@ page_takes : (w : World) (puller server : ℕ) (s : Versions) (u : Update) (us :
 page_takes w puller server s u us h sent wanted folder more = elim (fits_or_exceeds (plus (w.at puller).known u.gvsn) (vector_plus (w.at puller).known u.gvsn (h.vectors puller))) [
   | inr (count, much) ↦ ([], 0, Some (VectorFull count), w, inr (inr (inr (folder, count, (wanted, much), refl, refl, refl, refl))))
   | inl fits ↦ (
-    let (mid, took) = take w puller server u wanted fits (inl (s, sent.sent, sent.wins)) in
-    let (listed, others, why, new, p) = more mid took in
-    (listed, others + 1, why, new, inr (inr (inl (folder, mid, others, took, p, refl))))
-  )
+      let (mid, took) = take w puller server u wanted fits (inl (s, sent.sent, sent.wins)) in
+      let (listed, others, why, new, p) = more mid took in
+      (listed, others + 1, why, new, inr (inr (inl (folder, mid, others, took, p, refl))))
+      )
 ]
 
 pages_some : (w : World) (puller server : ℕ) (s : Versions) (us : List Update) → IsSoundWorld w → ((u : Update) → In u us → IsSent w server s u) → SomePages w puller server us
@@ -284,10 +284,10 @@ file_takes : (w : World) (puller server : ℕ) (u : Update) (us : List Update) �
 file_takes w puller server u us h wanted file more = elim (fits_or_exceeds (plus (w.at puller).known u.gvsn) (vector_plus (w.at puller).known u.gvsn (h.vectors puller))) [
   | inr (count, much) ↦ (0, Some (VectorFull count), w, inr (inr (inr (u, count, wanted, refl, file, (wanted, much), refl, refl, refl))))
   | inl fits ↦ (
-    let (mid, took) = take w puller server u wanted fits (inr file) in
-    let (others, why, new, p) = more mid took in
-    (others + 1, why, new, inr (inr (inl (u, mid, others, wanted, refl, file, took, p, refl))))
-  )
+      let (mid, took) = take w puller server u wanted fits (inr file) in
+      let (others, why, new, p) = more mid took in
+      (others + 1, why, new, inr (inr (inl (u, mid, others, wanted, refl, file, took, p, refl))))
+      )
 ]
 
 files_some : (w : World) (puller server : ℕ) (us : List Update) → IsSoundWorld w → server ≢ puller → ((u : Update) → In u us → IsRecordOf w server u) → SomeFiles w puller server us
@@ -375,7 +375,7 @@ pulls_some w puller server h apart = pull (pages_some sent puller server S page 
             let r = files_pass mid puller server listed fetched None last q.sound files in
             let whole = passes_trans puller w mid last (passes_trans puller w sent mid p q) r in
             let (why, new, end) = ends_some last puller S r.sound (h.vectors server) (server, (passes_trans puller sent mid last q r).grows.vectors _ (inl refl))
-                (all_held listed at_once fetched mid last pages files q.sound whole.grows r.grows (files_all mid puller server listed fetched None last files ∙ all) are) in
+            (all_held listed at_once fetched mid last pages files q.sound whole.grows r.grows (files_all mid puller server listed fetched None last files ∙ all) are) in
             done None pages fetched why new (None, last, files, end)
 
         by : (first : Option Refusal) → TakesPages sent puller server page listed at_once first mid → SomeFiles mid puller server listed → SomePull w puller server

@@ -39,8 +39,8 @@ pub records_some : (w : World) (d : ℕ) → VersionsAreMade w → (records : Li
 records_some w d h =
     let (ys, each, whole) = winners w.all (w.at d).known w.all h.one_each in
     let (zs, s) = sorted_of (IsRecordOf w d) Lower (λ x y z p q. uid_trans x.uid y.uid z.uid p q)
-        (λ x y p q. elim (uid_tells x.uid y.uid) [ inl l ↦ inl l | inr (inl e) ↦ inr (inl (best_one x y (λ i j a b g. h.one_each i j a.0 b.0 g) p q e)) | inr (inr g) ↦ inr (inr g) ])
-        ys each in
+    (λ x y p q. elim (uid_tells x.uid y.uid) [ inl l ↦ inl l | inr (inl e) ↦ inr (inl (best_one x y (λ i j a b g. h.one_each i j a.0 b.0 g) p q e)) | inr (inr g) ↦ inr (inr g) ])
+    ys each in
     (zs, record { rising = to_rising zs s.up; each = λ u a. each u (s.from u a); whole = λ u r. s.to u (whole u r.among.0 r) })
 
 -- so is what another doesn't cover of them
@@ -49,13 +49,15 @@ page_some w puller server h =
     let (records, l) = records_some w server h in
     let (us, from, to) = passing (λ u. not ((w.at puller).known u.gvsn)) records in
     let (ys, s) = sorted_of (IsRecordOf w server) Before (λ x y z p q. gvsn_trans x.gvsn y.gvsn z.gvsn p q)
-        (λ x y p q. elim (gvsn_tells x.gvsn y.gvsn) [ inl a ↦ inl a | inr (inl e) ↦ inr (inl (h.one_each x y p.among.0 q.among.0 e)) | inr (inr g) ↦ inr (inr g) ])
-        us (λ x a. l.each x (from x a).0) in
-    (ys, record {
-      ordered = to_version ys s.up;
-      each = λ u a. let (i, t) = from u (s.from u a) in (l.each u i, not_true ((w.at puller).known u.gvsn) t);
-      whole = λ u r f. s.to u (to u (l.whole u r) (not_false ((w.at puller).known u.gvsn) f));
-    })
+    (λ x y p q. elim (gvsn_tells x.gvsn y.gvsn) [ inl a ↦ inl a | inr (inl e) ↦ inr (inl (h.one_each x y p.among.0 q.among.0 e)) | inr (inr g) ↦ inr (inr g) ])
+    us (λ x a. l.each x (from x a).0) in (
+      ys,
+      record {
+        ordered = to_version ys s.up;
+        each = λ u a. let (i, t) = from u (s.from u a) in (l.each u i, not_true ((w.at puller).known u.gvsn) t);
+        whole = λ u r f. s.to u (to u (l.whole u r) (not_false ((w.at puller).known u.gvsn) f));
+      },
+    )
   where
     not_true : (b : Bool) → not b ≡ true → b ≡ false
     not_true true e = absurd (cc)

@@ -159,11 +159,14 @@ pages_one w puller server (u ∷ us) l k a b why other m n (inr (inr (inr (folde
 pages_one w puller server (u ∷ us) l k a b why other m n (inr (inr (inr (folder, count, much, _, _, _, _)))) (inr (inr (inl (folder', mid, others, took, _, _)))) =
     absurd (not_both (plus (w.at puller).known u.gvsn) count took.0 much.1)
 pages_one w puller server (u ∷ us) l k a b why other m n (inr (inr (inr (folder, count, much, is, e, z, q)))) (inr (inr (inr (folder', count', much', is', e', z', q')))) =
-    record { listed = e ∙ sym e'; rest = record {
-      taken = z ∙ sym z';
-      refusal = q ∙ ap (λ x. Some (VectorFull x)) (exceeds_one (plus (w.at puller).known u.gvsn) count count' much.1 much'.1) ∙ sym q';
-      world = is ∙ sym is';
-    } }
+    record {
+      listed = e ∙ sym e';
+      rest = record {
+        taken = z ∙ sym z';
+        refusal = q ∙ ap (λ x. Some (VectorFull x)) (exceeds_one (plus (w.at puller).known u.gvsn) count count' much.1 much'.1) ∙ sym q';
+        world = is ∙ sym is';
+      };
+    }
 
 -- a member's record of a file is one
 pub record_one : (w : World) (d : ℕ) (u v : Update) → VersionsAreMade w → IsRecordOf w d u → IsRecordOf w d v → u.uid ≡ v.uid → u ≡ v

@@ -127,7 +127,7 @@ acts_one s (lines.Consume name moment) a b m n h form p q = by_name s name (λ d
 acts_one s (lines.Change name path moment) a b m n h form p q = by_name s name (λ d. Changes s name d (op.Put path []) moment) a b m n (λ d. changes_one s name d (op.Put path []) moment a b m n form.2 h) p q
 acts_one s (lines.Pull name other) a b m n h form (p, q, taken, why, w, at, from, pulls, said, is) (p', q', taken', why', w', at', from', pulls', said', is') =
     let same = pulls_one s.world p q taken taken' why why' w w' h.world pulls
-        (subst (λ x. Pulls s.world x q taken' why' w') (named_one s name p' p at' at) (subst (λ x. Pulls s.world p' x taken' why' w') (named_one s other q' q from' from) pulls')) in
+    (subst (λ x. Pulls s.world x q taken' why' w') (named_one s name p' p at' at) (subst (λ x. Pulls s.world p' x taken' why' w') (named_one s other q' q from' from) pulls')) in
     (said ∙ unless_one why why' _ _ same.refusal (λ none. ap (λ x. printed (codes "pulled" ∷ decimal x ∷ [])) (same.told none)) ∙ sym said', is ∙ ap (in_world s) same.world ∙ sym is')
 acts_one s (lines.Show name) a b m n h form (d, at, shows, is) (d', at', shows', is') = (shows_one s d a b shows (subst (λ x. Shows s x b) (named_one s name d' d at' at) shows'), is ∙ sym is')
 acts_one s (lines.Tree name) a b m n h form (d, at, shows, is) (d', at', shows', is') = (tree_one s d a b shows (subst (λ x. PrintsTree s x b) (named_one s name d' d at' at) shows'), is ∙ sym is')

@@ -85,33 +85,44 @@ pub sorted_of : {T : Type 0} (P : T → Type 0) (lt : T → T → Type 0) → ((
 sorted_of P lt trans tell [] are = ([], record { up = tt; from = λ x h. h; to = λ x h. h })
 sorted_of {T = T} P lt trans tell (u ∷ us) are =
     let (ys, s) = sorted_of P lt trans tell us (λ x h. are x (inr h)) in
-    let (zs, z) = put ys s.up (λ x h. are x (inr (s.from x h))) in
-    (zs, record {
-      up = z.up;
-      from = λ x h. elim (z.from x h) [ inl e ↦ inl e | inr k ↦ inr (s.from x k) ];
-      to = λ x h. elim h [ inl e ↦ z.to x (inl e) | inr k ↦ z.to x (inr (s.to x k)) ];
-    })
+    let (zs, z) = put ys s.up (λ x h. are x (inr (s.from x h))) in (
+      zs,
+      record {
+        up = z.up;
+        from = λ x h. elim (z.from x h) [ inl e ↦ inl e | inr k ↦ inr (s.from x k) ];
+        to = λ x h. elim h [ inl e ↦ z.to x (inl e) | inr k ↦ z.to x (inr (s.to x k)) ];
+      },
+    )
   where
     put : (xs : List T) → Sorted lt xs → ((x : T) → In x xs → P x) → (ys : List T) × SortedOf lt (u ∷ xs) ys
     put [] up are' = (u ∷ [], record { up = (tt, tt); from = λ x h. h; to = λ x h. h })
     put (x ∷ xs) up are' = by (tell x u (are' x (inl refl)) (are u (inl refl))) (put xs up.1 (λ y h. are' y (inr h)))
       where
         by : lt x u ⊎ ((x ≡ u) ⊎ lt u x) → (ys : List T) × SortedOf lt (u ∷ xs) ys → (ys : List T) × SortedOf lt (u ∷ x ∷ xs) ys
-        by (inl l) (ys, s) = (x ∷ ys, record {
-          up = (all_of (lt x) ys (λ y h. elim (s.from y h) [ inl e ↦ subst (lt x) (sym e) l | inr k ↦ all_in (lt x) y xs up.0 k ]), s.up);
-          from = λ y h. elim h [ inl e ↦ inr (inl e) | inr k ↦ elim (s.from y k) [ inl e ↦ inl e | inr i ↦ inr (inr i) ] ];
-          to = λ y h. elim h [ inl e ↦ inr (s.to y (inl e)) | inr k ↦ elim k [ inl e ↦ inl e | inr i ↦ inr (s.to y (inr i)) ] ];
-        })
-        by (inr (inl e)) more = (x ∷ xs, record {
-          up = up;
-          from = λ y h. inr h;
-          to = λ y h. elim h [ inl k ↦ inl (k ∙ sym e) | inr k ↦ k ];
-        })
-        by (inr (inr g)) more = (u ∷ x ∷ xs, record {
-          up = ((g, all_of (lt u) xs (λ y h. trans u x y g (all_in (lt x) y xs up.0 h))), up);
-          from = λ y h. h;
-          to = λ y h. h;
-        })
+        by (inl l) (ys, s) = (
+          x ∷ ys,
+          record {
+            up = (all_of (lt x) ys (λ y h. elim (s.from y h) [ inl e ↦ subst (lt x) (sym e) l | inr k ↦ all_in (lt x) y xs up.0 k ]), s.up);
+            from = λ y h. elim h [ inl e ↦ inr (inl e) | inr k ↦ elim (s.from y k) [ inl e ↦ inl e | inr i ↦ inr (inr i) ] ];
+            to = λ y h. elim h [ inl e ↦ inr (s.to y (inl e)) | inr k ↦ elim k [ inl e ↦ inl e | inr i ↦ inr (s.to y (inr i)) ] ];
+          },
+        )
+        by (inr (inl e)) more = (
+          x ∷ xs,
+          record {
+            up = up;
+            from = λ y h. inr h;
+            to = λ y h. elim h [ inl k ↦ inl (k ∙ sym e) | inr k ↦ k ];
+          },
+        )
+        by (inr (inr g)) more = (
+          u ∷ x ∷ xs,
+          record {
+            up = ((g, all_of (lt u) xs (λ y h. trans u x y g (all_in (lt x) y xs up.0 h))), up);
+            from = λ y h. h;
+            to = λ y h. h;
+          },
+        )
 
 -- the items that pass a test
 pub passing : {T : Type 0} (p : T → Bool) (us : List T) → (ys : List T) × ((x : T) → In x ys → In x us × (p x ≡ true)) × ((x : T) → In x us → p x ≡ true → In x ys)

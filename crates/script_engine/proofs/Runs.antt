@@ -1,5 +1,5 @@
 -- Runs of lines, one after the other, and that each goes on.
-use Rattle.std.proofs.Common.{◌≡◌, ◌++◌, ℕ, zero, suc, List, [], ◌∷◌, take, refl, sym, ap, ◌∙◌, subst, append-nil, append_assoc, All}
+use Rattle.std.proofs.Common.{◌++◌, ℕ, zero, suc, List, [], ◌∷◌, take, refl, sym, ap, ◌∙◌, subst, append-nil, append_assoc, All}
 use Rattle.std.proofs.lemmas.List.Elements.{All-head, All-tail}
 use Rattle.script_lang.specs.Grammar.{IsLine}
 use Rattle.script_lang.specs.declared.line.Line.{Line}
