@@ -73,7 +73,7 @@ climbs objects m f (x ∷ y ∷ rest) start n up o s (fid, d, at, place, more) =
     let (is, above, h) = number objects m f fid d at in
     let far : fid ≢ 0 = λ e. omega arith in
     let (k, e, j) = climbs objects m f (y ∷ rest) fid (suc n) (x ∷ up) o
-        (inr (d, far, sym (f.finds fid) ∙ at, ap (names_up objects (suc n)) place ∙ step_from objects start n up x s)) more in
+    (inr (d, far, sym (f.finds fid) ∙ at, ap (names_up objects (suc n)) place ∙ step_from objects start n up x s)) more in
     (k, e ∙ ap Some (sym (append_assoc (reverse (y ∷ rest)) (x ∷ []) up) ∙ ap (λ l. l ++ up) (sym (reverse-append (x ∷ []) (y ∷ rest)))), j)
 
 -- ---- rows

@@ -103,11 +103,13 @@ insert_ordered x (y ∷ ys) up other = by (path_lt x.path y.path) refl (insert_o
     by : (b : Bool) → path_lt x.path y.path ≡ b → IsByPath (insert_row x ys) → IsByPath (cond b (x ∷ y ∷ ys) (y ∷ insert_row x ys))
     by true e more = ((e, all_in (λ o. path_lt x.path o.path ≡ true) ys (λ r h. path_trans x.path y.path r.path e (above y r ys up.0 h))), up)
     by false e more =
-        let below : path_lt y.path x.path ≡ true = path_below y.path x.path e (λ s. other y (inl refl) (sym s)) in
-        (all_in (λ o. path_lt y.path o.path ≡ true) (insert_row x ys) (λ r h. elim (in_insert x r ys h) [
-        | inl s ↦ subst (λ o. path_lt y.path o.path ≡ true) (sym s) below
-        | inr k ↦ above y r ys up.0 k
-        ]), more)
+        let below : path_lt y.path x.path ≡ true = path_below y.path x.path e (λ s. other y (inl refl) (sym s)) in (
+          all_in (λ o. path_lt y.path o.path ≡ true) (insert_row x ys) (λ r h. elim (in_insert x r ys h) [
+            | inl s ↦ subst (λ o. path_lt y.path o.path ≡ true) (sym s) below
+            | inr k ↦ above y r ys up.0 k
+          ]),
+          more,
+        )
 
 -- rows of which no two have one path are in some order
 record IsOrderOf (rows ordered : List Row) : Type 0 where
@@ -118,12 +120,14 @@ record IsOrderOf (rows ordered : List Row) : Type 0 where
 in_order : (rows : List Row) → AreApart rows → (ordered : List Row) × IsOrderOf rows ordered
 in_order [] apart = ([], record { up = tt; to = λ r h. h; back = λ r h. h })
 in_order (x ∷ xs) apart =
-    let (ys, o) = in_order xs apart.1 in
-    (insert_row x ys, record {
-      up = insert_ordered x ys o.up (λ r h. apart.0 r (o.back r h));
-      to = λ r h. elim h [ inl e ↦ subst (λ y. In y (insert_row x ys)) (sym e) (insert_in x ys) | inr k ↦ insert_keeps x r ys (o.to r k) ];
-      back = λ r h. elim (in_insert x r ys h) [ inl e ↦ inl e | inr k ↦ inr (o.back r k) ];
-    })
+    let (ys, o) = in_order xs apart.1 in (
+      insert_row x ys,
+      record {
+        up = insert_ordered x ys o.up (λ r h. apart.0 r (o.back r h));
+        to = λ r h. elim h [ inl e ↦ subst (λ y. In y (insert_row x ys)) (sym e) (insert_in x ys) | inr k ↦ insert_keeps x r ys (o.to r k) ];
+        back = λ r h. elim (in_insert x r ys h) [ inl e ↦ inl e | inr k ↦ inr (o.back r k) ];
+      },
+    )
 
 -- a list in order with the members of the rows is the tree
 tree_by : (objects : List Object) (m : Maps) → Finds objects m → (rows : List Row) → IsOrderOf (rows_of objects) rows → IsTreeOf m rows

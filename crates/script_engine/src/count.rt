@@ -27,11 +27,7 @@ fn records_count(alloc: Global, records: &[Update]) -> Result<String, AllocError
 }
 
 /// How many files a tree has, and how many intervals a vector.
-fn tree_count(
-    alloc: Global,
-    rows: &[TreeRow],
-    vector: &[Interval],
-) -> Result<String, AllocError>
+fn tree_count(alloc: Global, rows: &[TreeRow], vector: &[Interval]) -> Result<String, AllocError>
     ensures { IfOk result (λ text. string_bytes text ≡ join_with_byte 32 (codes "files" ∷ decimal (files_in rows.now) ∷ codes "intervals" ∷ decimal (length vector.now) ∷ [])) }
 {
     let files = files_in(rows);

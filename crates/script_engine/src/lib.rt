@@ -19,3 +19,6 @@ pub use records::records_text;
 pub use refusal::Refusal;
 pub use rows::{TreeRow, tree_rows};
 pub use tree::tree_text;
+
+#[cfg(test)]
+mod tests;
