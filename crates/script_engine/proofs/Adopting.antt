@@ -47,7 +47,7 @@ use Rattle.folder_core.specs.Sound.{IsInOrder}
 use Rattle.script_engine.specs.Sound.{IsSoundWorld}
 use Rattle.script_engine.specs.Standing.{AreOurs, MachineStands}
 use Rattle.script_engine.specs.Widening.{Exceeds, Fits}
-use Rattle.script_engine.proofs.Going.{Goes, beside_same}
+use Rattle.script_engine.proofs.Advancing.{Goes, beside_same}
 use Rattle.script_engine.proofs.Passing.{Passes, passes_adopt}
 use Rattle.script_engine.proofs.Vectors.{vector_plus}
 use Rattle.script_engine.proofs.Widths.{covered_is, exceeds_by, fits_by}

@@ -43,7 +43,7 @@ use Rattle.script_engine.specs.Sound.{IsSoundWorld}
 use Rattle.script_engine.specs.Standing.{AreOurs, MachineStands}
 use Rattle.script_engine.specs.Consuming.{IsAtEnd, widened}
 use Rattle.script_engine.specs.Widening.{Exceeds, Fits}
-use Rattle.script_engine.proofs.Going.{Goes, machine_beside}
+use Rattle.script_engine.proofs.Advancing.{Goes, machine_beside}
 use Rattle.script_engine.proofs.Passing.{Passes, passes_consume}
 use Rattle.script_engine.proofs.Vectors.{vector_plus}
 use Rattle.script_engine.proofs.Widths.{covered_is, exceeds_by, fits_by}

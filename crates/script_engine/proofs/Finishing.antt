@@ -28,7 +28,7 @@ use Rattle.folder_core.specs.Sound.{IsInOrder}
 use Rattle.script_engine.specs.Sound.{IsSoundWorld}
 use Rattle.script_engine.specs.Standing.{MachineStands}
 use Rattle.script_engine.specs.Widening.{Exceeds, Fits, IsVectorOf}
-use Rattle.script_engine.proofs.Going.{Goes, beside_same}
+use Rattle.script_engine.proofs.Advancing.{Goes, beside_same}
 use Rattle.script_engine.proofs.Passing.{Passes, passes_finish}
 use Rattle.script_engine.proofs.Vectors.{HasVector, vector_both}
 use Rattle.script_engine.proofs.Widths.{covered_is, exceeds_by, fits_by}

@@ -23,7 +23,7 @@ use Rattle.folder_core.specs.Local.{AnswersLocal, Operates}
 use Rattle.folder_core.specs.Sound.{IsInOrder}
 use Rattle.script_engine.specs.Sound.{IsSoundWorld}
 use Rattle.script_engine.specs.Standing.{MachineStands}
-use Rattle.script_engine.proofs.Going.{Goes, beside_same}
+use Rattle.script_engine.proofs.Advancing.{Goes, beside_same}
 use Rattle.script_engine.proofs.Passing.{Passes, passes_local}
 
 -- the command is done

@@ -1,10 +1,10 @@
 -- What the events of lines leave of a sound world.
-use Rattle.std.proofs.Common.{◌≡◌, ◌≢◌, ◌<◌, ◌+◌, ◌^◌, ◌⊎◌, ℕ, List, [], ◌∷◌, refl, sym, ap, ◌∙◌, subst, inl, inr, Option, Some, None}
+use Rattle.std.proofs.Common.{◌≡◌, ◌≢◌, ◌<◌, ◌^◌, ℕ, List, [], ◌∷◌, refl, sym, ◌∙◌, subst, inl, inr, Option, Some, None}
 use Rattle.win_order.specs.declared.update.Update.{Update}
 use Rattle.vol_state.specs.declared.command.VolCmd.{VolCmd}
 use Rattle.vol_state.specs.State.{State}
 use Rattle.vol_state.specs.Maps.{with_at}
-use Rattle.record_db.specs.Records.{Versions, both, plus}
+use Rattle.record_db.specs.Records.{Versions}
 use Rattle.world_model.specs.World.{Member, World}
 use Rattle.world_model.specs.Events.{Records, Step, Local, Consume, SendVector, SendUpdate, Adopt, Finish, adopted_by, consumed_by, consumes, finished_by, operated, sends_update, sends_vector}
 use Rattle.world_model.specs.Runs.{Grows}
@@ -62,14 +62,14 @@ changed w d x h same v = (
 
 pub passes_consume : (w : World) (d moment : ℕ) (made : Option Update) (new : World) → moment < 2 ^ 61 → IsSoundWorld w → Records w d moment made → new ≡ consumes w d made → Passes d w new
 passes_consume w d moment made new early h r is = subst (Passes d w) (sym is) (
-  let s : Step w d (Consume moment) (consumes w d made) = (early, made, r, refl) in
-  let (volumes, vectors) = changed w d (consumed_by d made (w.at d)) h refl (vector_plus (w.at d).known (record { db = d; version = (w.at d).consumed }) (h.vectors d)) in
-  record {
-    sound = record { invariant = step_keeps w d (Consume moment) _ h.invariant s; volumes = volumes; vectors = vectors };
-    grows = step_grows w d (Consume moment) _ s;
-    others = step_beside w d (Consume moment) _ s;
-  }
-)
+    let s : Step w d (Consume moment) (consumes w d made) = (early, made, r, refl) in
+    let (volumes, vectors) = changed w d (consumed_by d made (w.at d)) h refl (vector_plus (w.at d).known (record { db = d; version = (w.at d).consumed }) (h.vectors d)) in
+    record {
+      sound = record { invariant = step_keeps w d (Consume moment) _ h.invariant s; volumes = volumes; vectors = vectors };
+      grows = step_grows w d (Consume moment) _ s;
+      others = step_beside w d (Consume moment) _ s;
+    }
+    )
 
 pub passes_vector : (w : World) (d server : ℕ) (new : World) → IsSoundWorld w → Step w server SendVector new → Passes d w new
 passes_vector w d server new h s = subst (Passes d w) (sym s) (record {
@@ -163,6 +163,6 @@ pulls_pass w puller server taken why new h (sent, page, listed, at_once, fetched
     let q = pages_pass sent puller server page listed at_once first mid p.sound pages in
     goes_on_passes puller w mid first _ why new (passes_trans puller w sent mid p q)
     (λ why new (second, last, files, on).
-        let r = files_pass mid puller server listed fetched second last q.sound files in
-        goes_on_passes puller mid last second _ why new r (λ why new ends. ends_pass last puller (w.at server).known why new r.sound (h.vectors server) ends) on)
+    let r = files_pass mid puller server listed fetched second last q.sound files in
+    goes_on_passes puller mid last second _ why new r (λ why new ends. ends_pass last puller (w.at server).known why new r.sound (h.vectors server) ends) on)
     on

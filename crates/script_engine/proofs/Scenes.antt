@@ -1,5 +1,5 @@
 -- Every line keeps a scene sound.
-use Rattle.std.proofs.Common.{◌≡◌, ◌≢◌, ◌<◌, ◌≤◌, ◌+◌, ◌^◌, ◌++◌, ◌⊎◌, ℕ, false, List, [], ◌∷◌, length, refl, sym, ap, ◌∙◌, subst, arith, inl, inr, Option, Some, None, MatchOption, Result, Ok, Err, All}
+use Rattle.std.proofs.Common.{◌≡◌, ◌≢◌, ◌<◌, ◌≤◌, ◌+◌, ◌^◌, ◌++◌, ◌⊎◌, ℕ, List, [], ◌∷◌, length, refl, sym, ap, ◌∙◌, subst, arith, inl, inr, Option, Some, None, MatchOption, Result, Ok, Err}
 use Rattle.std.specs.Prelude.{MatchResult, bytes_eq}
 use Rattle.std.proofs.lemmas.List.{length-append}
 use Rattle.std.proofs.lemmas.List.Elements.{All-head, All-tail}
@@ -14,31 +14,25 @@ use Rattle.vol_state.specs.declared.operation.LocalOp.TheVariants as op
 use Rattle.vol_state.specs.declared.operation.Refused.{Refused}
 use Rattle.vol_state.specs.State.{State}
 use Rattle.vol_state.specs.Seen.{fresh_state}
-use Rattle.vol_state.specs.Maps.{fresh_maps}
-use Rattle.vol_state.specs.Ways.{Resolves}
-use Rattle.vol_state.proofs.Standing.{begins_standing}
-use Rattle.record_db.specs.Records.{IsRecord}
 use Rattle.script_lang.specs.Grammar.{IsLine}
 use Rattle.script_lang.specs.declared.line.Line.{Line}
 use Rattle.script_lang.specs.declared.line.Line.TheVariants as lines
-use Rattle.world_model.specs.World.{Member, World, fresh_member, fresh_world, with_member}
+use Rattle.world_model.specs.World.{Member, World, with_member}
 use Rattle.world_model.specs.Events.{Step, Local as LocalEvent}
 use Rattle.world_model.specs.Invariant.{Invariant, IsSound}
-use Rattle.world_model.specs.Runs.{Grows}
 use Rattle.world_model.proofs.Changing.{at_each, at_other}
 use Rattle.world_model.proofs.Fresh.{fresh_sound}
-use Rattle.world_model.proofs.Growth.{grows_refl, grows_trans, member_grows}
 use Rattle.world_model.proofs.Versions.{same_consumed}
-use Rattle.script_engine.specs.Scene.{Scene, IsNamed, fresh_scene, in_world, with_name}
-use Rattle.script_engine.specs.Sound.{AreLists, IsNobodys, IsSoundScene, IsSoundWorld}
+use Rattle.script_engine.specs.Scene.{Scene, IsNamed, in_world, with_name}
+use Rattle.script_engine.specs.Sound.{AreLists, IsNobodys, IsSoundScene}
 use Rattle.script_engine.specs.declared.refusal.Refusal.{Refusal}
 use Rattle.script_engine.specs.declared.refusal.Refusal.TheVariants.{Local}
 use Rattle.script_engine.specs.Refusals.{first_refusal}
-use Rattle.script_engine.specs.Text.{Acts, Changes, Consumes, Does, IsRefused, Operates, Run, filled, last_text, text_unless, usn_text}
+use Rattle.script_engine.specs.Text.{Acts, Changes, Does, IsRefused, Operates, filled, last_text, text_unless, usn_text}
 use Rattle.script_engine.specs.declared.consumed.Consumed.{Consumed}
 use Rattle.script_engine.specs.Consuming.{ConsumesAll}
-use Rattle.script_engine.specs.Laws.{FreshScenesAreSound, LinesKeepScenesSound, RunsKeepScenesSound}
-use Rattle.script_engine.proofs.Passing.{Passes, consumes_all_passes, consumes_next_passes, passes_local, passes_refl, passes_trans, pulls_pass}
+use Rattle.script_engine.specs.Scripts.{FreshScenesAreSound, LinesKeepScenesSound, RunsKeepScenesSound}
+use Rattle.script_engine.proofs.Passing.{Passes, consumes_all_passes, consumes_next_passes, passes_local, passes_trans, pulls_pass}
 use Rattle.script_engine.proofs.Vectors.{HasVector, no_versions}
 use Rattle.script_engine.proofs.Volumes.{fresh_lists}
 

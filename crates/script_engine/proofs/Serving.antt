@@ -21,7 +21,7 @@ use Rattle.script_engine.specs.Scene.{Scene, in_world}
 use Rattle.script_engine.specs.Sound.{IsSoundWorld}
 use Rattle.script_engine.specs.Standing.{MachineStands, MachinesStand}
 use Rattle.script_engine.specs.Pulling.{IsLastPending}
-use Rattle.script_engine.proofs.Going.{scene_on}
+use Rattle.script_engine.proofs.Advancing.{scene_on}
 use Rattle.script_engine.proofs.Passing.{Passes, passes_update, passes_vector}
 
 -- ---- what is sent changes no machine

@@ -1,5 +1,5 @@
 -- Canonical lists of sets of versions.
-use Rattle.std.proofs.Common.{◌≡◌, ◌<◌, ◌≤◌, ◌⊎◌, ◌||◌, ℕ, Bool, true, false, leb, List, [], ◌∷◌, length, refl, sym, ap, ◌∙◌, arith, inl, inr}
+use Rattle.std.proofs.Common.{◌≡◌, ◌⊎◌, ◌||◌, ℕ, Bool, true, false, leb, List, [], ◌∷◌, length, refl, sym, ap, ◌∙◌, arith, inl, inr}
 use Rattle.std.proofs.lemmas.Bool.Decides.{nat_tests}
 use Rattle.frs_base.specs.declared.version.Gvsn.{Gvsn}
 use Rattle.version_vector.specs.Places.{one_version}
@@ -25,10 +25,13 @@ no_versions = ([], record { canonical = tt; covering = λ g. refl })
 
 -- with one version more
 pub vector_plus : (set : Versions) (g : Gvsn) → HasVector set → HasVector (plus set g)
-vector_plus set g (vector, v) = (inserted (one_version g) vector, record {
-  canonical = inserted_form (one_version g) vector (omega arith) v.canonical;
-  covering = λ h. adds_version g vector v.canonical h ∙ (λ i. plus (λ x. v.covering x i) g h);
-})
+vector_plus set g (vector, v) = (
+  inserted (one_version g) vector,
+  record {
+    canonical = inserted_form (one_version g) vector (omega arith) v.canonical;
+    covering = λ h. adds_version g vector v.canonical h ∙ (λ i. plus (λ x. v.covering x i) g h);
+  },
+)
 
 -- ---- of two sets
 
@@ -48,10 +51,13 @@ united_covers (i ∷ a) b g c d =
     covers-inserted i (united a b) (head_full i a c) (united_form a b (tail_form i a c) d) g ∙ ap (λ t. inside i g || t) (united_covers a b g (tail_form i a c) d) ∙ sym (or_assoc (inside i g) (covers a g) (covers b g))
 
 pub vector_both : (K L : Versions) → HasVector K → HasVector L → HasVector (both K L)
-vector_both K L (a, v) (b, w) = (united b a, record {
-  canonical = united_form b a w.canonical v.canonical;
-  covering = λ g. united_covers b a g w.canonical v.canonical ∙ (λ i. w.covering g i || v.covering g i);
-})
+vector_both K L (a, v) (b, w) = (
+  united b a,
+  record {
+    canonical = united_form b a w.canonical v.canonical;
+    covering = λ g. united_covers b a g w.canonical v.canonical ∙ (λ i. w.covering g i || v.covering g i);
+  },
+)
 
 -- ---- how long it is
 

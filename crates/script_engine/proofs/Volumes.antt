@@ -1,31 +1,30 @@
 -- The lists of a volume of a world.
-use Rattle.std.proofs.Common.{◌≡◌, ◌≢◌, ◌<◌, ◌≤◌, ◌+◌, ℕ, zero, suc, max, Bool, true, false, cond, eqb, List, [], ◌∷◌, ◌++◌, length, refl, sym, ap, ◌∙◌, subst, arith, inl, inr, Option, Some, None}
-use Rattle.std.specs.Prelude.{option_map, if◌then◌else◌}
+use Rattle.std.proofs.Common.{◌≡◌, ◌<◌, ◌≤◌, ◌+◌, ℕ, zero, suc, Bool, true, eqb, List, [], ◌∷◌, ◌++◌, refl, sym, ap, ◌∙◌, subst, arith, inl, inr, Option, Some, None}
+use Rattle.std.specs.Prelude.{option_map}
 use Rattle.std.proofs.lemmas.Bool.Decides.{nat_tests, eqb_tells}
 use Rattle.std.proofs.lemmas.List.{length-append}
-use Rattle.frs_base.specs.Names.{matches}
 use Rattle.frs_base.specs.Options.{In, none_or}
 use Rattle.frs_base.specs.declared.version.Uid.{Uid}
 use Rattle.vol_state.specs.declared.object.Object.{Object}
 use Rattle.vol_state.specs.declared.record.VolRecord.{VolRecord}
 use Rattle.vol_state.specs.declared.command.VolCmd.{VolCmd}
 use Rattle.vol_state.specs.declared.command.VolCmd.TheVariants.{PutNew, PutOver, Mkdir, Move, Remove, Park, Erase, Make, Rewrite, Place}
-use Rattle.vol_state.specs.Places.{above, above_it, ends_in, is_child, object_at}
-use Rattle.vol_state.specs.State.{IsOneEach, State, uid_of}
+use Rattle.vol_state.specs.Places.{above, above_it, ends_in}
+use Rattle.vol_state.specs.State.{State, uid_of}
 use Rattle.vol_state.specs.Journal.{IsNumbered, RunsFrom, record_at}
 use Rattle.vol_state.specs.Numbers.{greatest, greatest_fid, greatest_usn, own_version, usn_in}
-use Rattle.vol_state.specs.Tree.{AreRising, Ends, IsHome, IsTree}
+use Rattle.vol_state.specs.Tree.{AreRising, IsHome}
 use Rattle.vol_state.specs.Effects.{at_place, effect, logged, stamp, with_bytes}
 use Rattle.vol_state.specs.Valid.{IsVolume}
 use Rattle.vol_state.specs.Laws.{AreFree}
 use Rattle.vol_state.specs.Maps.{Maps, Stands, fresh_maps, write}
 use Rattle.vol_state.specs.Seen.{fresh_state}
-use Rattle.vol_state.specs.Tables.{IsAt, IsDirectory, IsLocal, LeadsBy}
+use Rattle.vol_state.specs.Tables.{IsAt, IsLocal, LeadsBy}
 use Rattle.vol_state.proofs.Climbing.{by_cases, differ}
 use Rattle.vol_state.proofs.Finding.{in_at}
 use Rattle.vol_state.proofs.Runs.{run_push}
 use Rattle.vol_state.proofs.Standing.{begins_standing, stands_on}
-use Rattle.vol_state.proofs.Tabling.{child_by, directory_at, item_of, tables_are_tests}
+use Rattle.vol_state.proofs.Tabling.{child_by, directory_at, tables_are_tests}
 use Rattle.vol_state.proofs.Tops.{greatest_in, objects_fid}
 use Rattle.vol_state.proofs.Trees.{rising_edit, rising_push, rising_without}
 use Rattle.world_model.specs.World.{World}

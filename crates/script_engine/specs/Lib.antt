@@ -6,7 +6,9 @@ pub mod Widening
 pub mod Consuming
 pub mod Pulling
 pub mod Trees
+pub mod Rows
+pub mod Laws
 pub mod Text
 pub mod Sound
 pub mod Standing
-pub mod Laws
+pub mod Scripts

@@ -35,11 +35,7 @@ pub(crate) fn vector_text(
 ///
 /// A database without a name prints as no letters, and of two names of one database the first
 /// is printed.
-pub fn records_text(
-    alloc: Global,
-    names: &[MemberName],
-    book: &Book,
-) -> Result<String, AllocError>
+pub fn records_text(alloc: Global, names: &[MemberName], book: &Book) -> Result<String, AllocError>
     requires { AreNamed names.now }
     ensures { IfOk result (λ text. string_bytes text ≡ records_text names.now book.now.state.records) }
 {

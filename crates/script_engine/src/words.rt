@@ -45,7 +45,11 @@ pub(crate) fn interval_word(
 fn kind_word(u: &Update) -> &'static str
     ensures { result.now ≡ kind_word u.now }
 {
-    if u.attributes & DIRECTORY == 0 { "f" } else { "d" }
+    if u.attributes & DIRECTORY == 0 {
+        "f"
+    } else {
+        "d"
+    }
 }
 
 fn state_word(u: &Update) -> &'static str

@@ -13,7 +13,7 @@ use Rattle.script_engine.proofs.records.vector_text.Goals as goal
 parted : (names : List MemberName) (intervals : List Interval) → 0 < length intervals
     → (codes "vector" ++ flat_map (λ i. 32 ∷ interval_word names i) intervals) ++ 10 ∷ [] ≡ vector_text names intervals
 parted names [] some = absurd (omega arith)
-parted names (i ∷ is) some = ap (λ l. l ++ 10 ∷ []) (sym (join_map (interval_word names) (codes "vector") (i ∷ is)))
+parted names (i ∷ is) some = ap (λ l. l ++ 10 ∷ []) (sym (join_map 32 (interval_word names) (codes "vector") (i ∷ is)))
 
 pub returns : goal.returns
 returns c =
