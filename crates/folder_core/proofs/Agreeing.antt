@@ -57,8 +57,8 @@ made_set : (m : Machine) (moment : ℕ) (r : VolRecord) (u : Update) → IsBook 
 made_set m moment r u book set is =
     elim (made_by m.volume.own (maps_of m.volume) (base_fence m.book.phase m.book.kind) m.book.consumed moment r.local (is_deletion r) (held_of m.book.records r.uid) ((maps_of m.volume).at r.fid) u is).1 [
       | inl d ↦
-        let found = subst (λ o. of_set o) d.was (all_set (held_of m.book.records r.uid) (held_is m.book.records r.uid)) in
-        ap (λ z. z.set) d.is ∙ found
+          let found = subst (λ o. of_set o) d.was (all_set (held_of m.book.records r.uid) (held_is m.book.records r.uid)) in
+          ap (λ z. z.set) d.is ∙ found
       | inr c ↦ ap (λ z. z.set) c.is ∙ sym set
     ]
   where
@@ -82,16 +82,16 @@ agrees_recorded m moment made new order set is begun left c (staged, h) = by (re
     by : (r : VolRecord) × (record_at m.volume.journal m.book.consumed ≡ Some r) → Agrees (record m { book = new })
     by (r, there) =
         let made_is : made ≡ recorded_of m.volume.own (maps_of m.volume) (base_fence m.book.phase m.book.kind) m.book.consumed moment r (held_of m.book.records r.uid) =
-            is ∙ ap (λ found. made_of found (λ s. recorded_of m.volume.own (maps_of m.volume) (base_fence m.book.phase m.book.kind) m.book.consumed moment s (held_of m.book.records s.uid))) there in
+        is ∙ ap (λ found. made_of found (λ s. recorded_of m.volume.own (maps_of m.volume) (base_fence m.book.phase m.book.kind) m.book.consumed moment s (held_of m.book.records s.uid))) there in
         let made_by_own : made ≡ recorded_of m.book.own (maps_of m.volume) (base_fence m.book.phase m.book.kind) m.book.consumed moment r (held_of m.book.records r.uid) =
-            made_is ∙ ap (λ own. recorded_of own (maps_of m.volume) (base_fence m.book.phase m.book.kind) m.book.consumed moment r (held_of m.book.records r.uid)) order.own in
+        made_is ∙ ap (λ own. recorded_of own (maps_of m.volume) (base_fence m.book.phase m.book.kind) m.book.consumed moment r (held_of m.book.records r.uid)) order.own in
         let after : FolderIsSound m.book.own (consumed_by m.book.own made (member_of m staged)) (put_any made m.book.records) =
-            (folders_stay m.book.own (member_of m staged) m.book.records h).consume moment r (held_of m.book.records r.uid) made there (held_is m.book.records r.uid) made_by_own in
+        (folders_stay m.book.own (member_of m staged) m.book.records h).consume moment r (held_of m.book.records r.uid) made there (held_is m.book.records r.uid) made_by_own in
         let known = covers_are new.vector _ c.vector in
         let path : consumed_by m.book.own made (member_of m staged) ≡ member_of (record m { book = new }) (consumed_by m.book.own made (member_of m staged)).staged =
-            (λ i. record (consumed_by m.book.own made (member_of m staged)) { known = sym known i; consumed = sym c.consumed i; kind = sym c.kind i; phase = sym c.phase i }) in
+        (λ i. record (consumed_by m.book.own made (member_of m staged)) { known = sym known i; consumed = sym c.consumed i; kind = sym c.kind i; phase = sym c.phase i }) in
         let records : put_any made m.book.records ≡ new.records =
-            ap (λ o. put_any o m.book.records) (sym (same_made m.book.set made (λ u e. made_set m moment r u order.book set (e ∙ made_is)))) ∙ sym c.records in
+        ap (λ o. put_any o m.book.records) (sym (same_made m.book.set made (λ u e. made_set m moment r u order.book set (e ∙ made_is)))) ∙ sym c.records in
         ((consumed_by m.book.own made (member_of m staged)).staged, moved _ _ _ _ _ _ (sym c.own) path records after)
 
 -- ---- a partner's update and vector
@@ -103,7 +103,7 @@ agrees_adopted m u new set fit c (staged, h) =
     let after : FolderIsSound m.book.own (adopted_by u (member_of m staged)) (put_record u m.book.records) = (folders_stay m.book.own (member_of m staged) m.book.records h).adopt u (fit staged) in
     let known = covers_are new.vector _ c.vector in
     let path : adopted_by u (member_of m staged) ≡ member_of (record m { book = new }) (adopted_by u (member_of m staged)).staged =
-        (λ i. record (adopted_by u (member_of m staged)) { known = sym known i; consumed = sym c.consumed i; kind = sym c.kind i; phase = sym c.phase i }) in
+    (λ i. record (adopted_by u (member_of m staged)) { known = sym known i; consumed = sym c.consumed i; kind = sym c.kind i; phase = sym c.phase i }) in
     let records : put_record u m.book.records ≡ new.records = ap (λ v. put_record v m.book.records) (sym (in_own_set m.book.set u set)) ∙ sym c.records in
     ((adopted_by u (member_of m staged)).staged, moved _ _ _ _ _ _ (sym c.own) path records after)
 
@@ -114,5 +114,5 @@ agrees_finished m sent new fit c (staged, h) =
     let after : FolderIsSound m.book.own (finished_by (covers sent) (member_of m staged)) m.book.records = (folders_stay m.book.own (member_of m staged) m.book.records h).finish (covers sent) (fit staged) in
     let known = covers_are new.vector _ c.vector in
     let path : finished_by (covers sent) (member_of m staged) ≡ member_of (record m { book = new }) staged =
-        (λ i. record (finished_by (covers sent) (member_of m staged)) { known = sym known i; consumed = sym c.consumed i; kind = sym c.kind i; phase = sym c.phase i }) in
+    (λ i. record (finished_by (covers sent) (member_of m staged)) { known = sym known i; consumed = sym c.consumed i; kind = sym c.kind i; phase = sym c.phase i }) in
     (staged, moved _ _ _ _ _ _ (sym c.own) path (sym c.records) after)

@@ -81,7 +81,7 @@ own_made : (m : Machine) (moment : ℕ) (u : Update) → IsSound m → m.book.co
 own_made m moment u h left is =
     let (r, there) = record_there m.volume m.book.consumed h.order.numbered h.bounds.begun left in
     let made : Some u ≡ recorded_of m.volume.own (maps_of m.volume) (base_fence m.book.phase m.book.kind) m.book.consumed moment r (held_of m.book.records r.uid) =
-        is ∙ ap (λ found. made_of found (λ s. recorded_of m.volume.own (maps_of m.volume) (base_fence m.book.phase m.book.kind) m.book.consumed moment s (held_of m.book.records s.uid))) there in
+    is ∙ ap (λ found. made_of found (λ s. recorded_of m.volume.own (maps_of m.volume) (base_fence m.book.phase m.book.kind) m.book.consumed moment s (held_of m.book.records s.uid))) there in
     made_version m.volume.own (maps_of m.volume) (base_fence m.book.phase m.book.kind) m.book.consumed moment r (held_of m.book.records r.uid) u made
     ∙ ap (λ own. record { db = own; version = m.book.consumed }) h.order.own
 

@@ -66,29 +66,40 @@ covers_both old (i ∷ rest) form = by (ltb i.low i.high) refl (covers_both old 
   where
     by : (b : Bool) → ltb i.low i.high ≡ b → IsCovered (λ h. covers rest h || covers old h) → IsCovered (λ h. covers (i ∷ rest) h || covers old h)
     by true e (list, v) =
-        let full : i.low < i.high = grind (arith, nat_tests) in
-        (inserted i list, record {
-          canonical = inserted_form i list full v.canonical;
-          covering = λ h. covers-inserted i list full v.canonical h ∙ (ap (λ b. inside i h || b) (v.covering h) ∙ assoc (inside i h) (covers rest h) (covers old h));
-        })
+        let full : i.low < i.high = grind (arith, nat_tests) in (
+          inserted i list,
+          record {
+            canonical = inserted_form i list full v.canonical;
+            covering = λ h. covers-inserted i list full v.canonical h ∙ (ap (λ b. inside i h || b) (v.covering h) ∙ assoc (inside i h) (covers rest h) (covers old h));
+          },
+        )
       where
         assoc : (a b c : Bool) → (a || (b || c)) ≡ ((a || b) || c)
         assoc true b c = refl
         assoc false b c = refl
-    by false e (list, v) = (list, record {
-      canonical = v.canonical;
-      covering = λ h. v.covering h ∙ ap (λ b. (b || covers rest h) || covers old h) (sym (empty_inside i h e));
-    })
+    by false e (list, v) = (
+      list,
+      record {
+        canonical = v.canonical;
+        covering = λ h. v.covering h ∙ ap (λ b. (b || covers rest h) || covers old h) (sym (empty_inside i h e));
+      },
+    )
 
 covers_after : (op : BookCmd) (book : BookState) → IsCanonical book.vector → IsCovered (covered_after op book)
-covers_after (cmd.RecordLocal usn u) book form = (inserted (one_version (own_version book usn)) book.vector, record {
-  canonical = inserted_form (one_version (own_version book usn)) book.vector (omega arith) form;
-  covering = λ h. adds_version (own_version book usn) book.vector form h;
-})
-covers_after (cmd.Adopt u) book form = (inserted (one_version u.gvsn) book.vector, record {
-  canonical = inserted_form (one_version u.gvsn) book.vector (omega arith) form;
-  covering = λ h. adds_version u.gvsn book.vector form h;
-})
+covers_after (cmd.RecordLocal usn u) book form = (
+  inserted (one_version (own_version book usn)) book.vector,
+  record {
+    canonical = inserted_form (one_version (own_version book usn)) book.vector (omega arith) form;
+    covering = λ h. adds_version (own_version book usn) book.vector form h;
+  },
+)
+covers_after (cmd.Adopt u) book form = (
+  inserted (one_version u.gvsn) book.vector,
+  record {
+    canonical = inserted_form (one_version u.gvsn) book.vector (omega arith) form;
+    covering = λ h. adds_version u.gvsn book.vector form h;
+  },
+)
 covers_after (cmd.Finish sent) book form = covers_both book.vector sent form
 
 -- ---- commands on the book

@@ -109,8 +109,12 @@ pub does_keep : (caller : ℕ) (e : Event) (said : Reply) (old new : Seen) → I
 does_keep caller e said old new h early (entry, more, enters) = record {
   replay = subst (λ l. Replays 1 (begins_of new) l (stand_of new)) (sym more)
       (subst (λ s. Replays 1 s (old.history ++ entry ∷ []) (stand_of new)) start
-      (replays_more 1 (begins_of old) (stand_of old) (stand_of new) old.history entry h.replay (e, said, subst (λ n. Enters n entry.caller e said entry (stand_of old) (stand_of new)) (omega arith)
-      (subst (λ n. Enters (length old.history + 1) n e said entry (stand_of old) (stand_of new)) (sym (ap (λ x. x.caller) enters.is)) enters))));
+      (replays_more 1 (begins_of old) (stand_of old) (stand_of new) old.history entry h.replay (
+        e,
+        said,
+        subst (λ n. Enters n entry.caller e said entry (stand_of old) (stand_of new)) (omega arith)
+            (subst (λ n. Enters (length old.history + 1) n e said entry (stand_of old) (stand_of new)) (sym (ap (λ x. x.caller) enters.is)) enters),
+      )));
   early = subst AreEarly (sym more) (early_more old.history entry h.early (subst (λ x. IsEarly x.note) (sym enters.is) early));
   usns =
       let usn = keeps.usn in
@@ -148,11 +152,14 @@ does_of caller at e said noted marked moved given old new place more generation 
     let mark : marked ≡ mark_of said = sym marked_is ∙ (h.mark ∙ ap (λ r. mark_of r) said_is) in
     let answered : Answers at old.machine e said new.machine = subst (λ r. Answers at old.machine e r new.machine) said_is answers in
     let turned : IsGeneration at (stand_of old) (stand_of new) =
-        subst (λ n. IsGeneration at (stand_of old) (record { machine = new.machine; generation = n })) (sym generation)
-        (generation_is moved at old.generation old.machine new.machine (λ m. h.stays (moved_is ∙ m)) (λ m. h.moves (moved_is ∙ m))) in
-    let entry : Entry = record { caller = caller; note = noted; reply = marked } in
-    (entry, more, record {
-      answers = subst (λ n. Answers n old.machine e said new.machine) place answered;
-      is = (λ i. record { caller = caller; note = note i; reply = mark i });
-      generation = subst (λ n. IsGeneration n (stand_of old) (stand_of new)) place turned;
-    })
+    subst (λ n. IsGeneration at (stand_of old) (record { machine = new.machine; generation = n })) (sym generation)
+    (generation_is moved at old.generation old.machine new.machine (λ m. h.stays (moved_is ∙ m)) (λ m. h.moves (moved_is ∙ m))) in
+    let entry : Entry = record { caller = caller; note = noted; reply = marked } in (
+      entry,
+      more,
+      record {
+        answers = subst (λ n. Answers n old.machine e said new.machine) place answered;
+        is = (λ i. record { caller = caller; note = note i; reply = mark i });
+        generation = subst (λ n. IsGeneration n (stand_of old) (stand_of new)) place turned;
+      },
+    )

@@ -10,11 +10,15 @@ pub enum Event {
     /// An operation on its files.
     Local(LocalOp),
     /// The next journal record is consumed, at this moment.
-    Consume { moment: u64 },
+    Consume {
+        moment: u64,
+    },
     /// A partner asks for what it covers.
     Vector,
     /// A partner asks for a file.
-    File { uid: Uid },
+    File {
+        uid: Uid,
+    },
     /// An update is taken that the member of the database `from` sent in the entry `at` of its
     /// history. The form, which a present file will come with, isn't looked at yet.
     Adopt {

@@ -29,11 +29,15 @@ pub enum Note {
     /// An operation on its files.
     Local(LocalNote),
     /// A journal record consumed, at this moment.
-    Consume { moment: u64 },
+    Consume {
+        moment: u64,
+    },
     /// What it covers was asked for.
     Vector,
     /// A file was asked for.
-    File { uid: Uid },
+    File {
+        uid: Uid,
+    },
     /// An update that the member of the database `from` sent in the entry `at` of its history.
     Adopt {
         from: Guid,

@@ -141,11 +141,13 @@ fn is_refused(
         None => false,
         Some(entry) => matches!(&entry.reply, Mark::Refused(why) if *why == want),
     };
-    Ok(matches!(&reply, Reply::Refused(why) if *why == want)
-        && entered
-        && folder.history().len() == length + 1
-        && numbers(folder) == before
-        && folder.generation() == generation)
+    Ok(
+        matches!(&reply, Reply::Refused(why) if *why == want)
+            && entered
+            && folder.history().len() == length + 1
+            && numbers(folder) == before
+            && folder.generation() == generation,
+    )
 }
 
 /// A directory made, moved and removed: the move's record is passed, since a later one is there.
@@ -222,8 +224,10 @@ fn what_is_asked_for(rt: HostRuntime) -> Result<(), Fail> {
     assert!(rt; matches!(none, Reply::File(FileAnswer::NoRecord)));
     let _ = a.event(alloc, 1, Event::Consume { moment: 10 })?;
     let found = a.event(alloc, 1, Event::File { uid })?;
-    assert!(rt; matches!(&found, Reply::File(FileAnswer::Found { at: 4, update })
-        if update.uid == uid && update.clock == 10));
+    assert!(rt;
+        matches!(&found, Reply::File(FileAnswer::Found { at: 4, update })
+        if update.uid == uid && update.clock == 10)
+    );
     let _ = a.event(alloc, 1, put(alloc, "x", "2")?)?;
     let _ = a.event(alloc, 1, put(alloc, "x", "3")?)?;
     let not_yet = a.event(alloc, 1, Event::File { uid })?;
@@ -245,7 +249,9 @@ fn what_is_asked_for(rt: HostRuntime) -> Result<(), Fail> {
     };
     let copy = entry.copy(alloc)?;
     assert!(rt; copy.caller == 1 && matches!(copy.note, Note::Vector));
-    assert!(rt; matches!(&copy.reply, Mark::Sent { vector, at: 8 } if vector.intervals().len() == 1));
+    assert!(rt;
+        matches!(&copy.reply, Mark::Sent { vector, at: 8 } if vector.intervals().len() == 1)
+    );
     Ok(())
 }
 
@@ -325,7 +331,14 @@ fn finish_and_its_refusals(rt: HostRuntime) -> Result<(), Fail> {
         sent: Vector::empty(),
         seen: List::of(seen),
     };
-    assert!(rt; is_refused(alloc, &mut a, unheld, Refusal::Unheld { uid: file_of(1, 9) })?);
+    assert!(rt;
+        is_refused(
+            alloc,
+            &mut a,
+            unheld,
+            Refusal::Unheld { uid: file_of(1, 9) }
+        )?
+    );
     let done = a.event(alloc, 1, finish(alloc, 2, 9, 12)?)?;
     assert!(rt; matches!(done, Reply::Finished) && a.generation() == 5);
     assert!(rt; a.book().phase() == Phase::Normal && numbers(&a) == (10, 10, 2, 1));

@@ -161,7 +161,7 @@ kind_found w d m u s fit = by (held_of m.book.records u.uid) refl (object_of m.v
 
 not_beaten : (w : World) (d : ℕ) (m : Machine) (u : Update) → IsSoundWorld w → MachineStands w.all (w.at d) d m → IsWanted w d u → beaten m u ≡ None
 not_beaten w d m u sound s (held, is_held, better) =
-    by (held_of m.book.records u.uid) (one_held (Covered w.all (w.at d).known) u.uid held (held_of m.book.records u.uid) (λ a b p q e. sound.invariant.versions.one_each a b p.0 q.0 e) is_held (found_held w.all (w.at d).known m.book.records u.uid s.book.records)) 
+    by (held_of m.book.records u.uid) (one_held (Covered w.all (w.at d).known) u.uid held (held_of m.book.records u.uid) (λ a b p q e. sound.invariant.versions.one_each a b p.0 q.0 e) is_held (found_held w.all (w.at d).known m.book.records u.uid s.book.records))
   where
     by : (found : Option Update) → held ≡ found → option_map Beaten (kept_if (λ k. not (key_lt k (key_of u))) (option_map key_of found)) ≡ None
     by None e = refl

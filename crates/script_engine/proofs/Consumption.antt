@@ -154,11 +154,13 @@ recorded_fit w d moment m (Some u) sound ours s records =
     let (r, held, at, is_held, is) = records in
     let x = w.at d in
     let named = (sound.invariant.members d).journal.named in
-    let file : u.uid ≡ r.uid = made_uid (Covered w.all x.known) d x.volume _ x.consumed moment r held u (λ o local there. named x.consumed r o (omega arith) at local there) is_held is in
-    (own_made w d moment u records ∙ (λ i. record { db = sym s.own i; version = x.consumed }), record {
-      set = (made_ours w d moment u ours records).0 ∙ sym s.set;
-      better = (held, subst (λ uid. IsHeld (Covered w.all x.known) uid held) (sym file) is_held, made_beats (Covered w.all x.known) d x.volume _ x.consumed moment r held u file is_held is);
-    })
+    let file : u.uid ≡ r.uid = made_uid (Covered w.all x.known) d x.volume _ x.consumed moment r held u (λ o local there. named x.consumed r o (omega arith) at local there) is_held is in (
+      own_made w d moment u records ∙ (λ i. record { db = sym s.own i; version = x.consumed }),
+      record {
+        set = (made_ours w d moment u ours records).0 ∙ sym s.set;
+        better = (held, subst (λ uid. IsHeld (Covered w.all x.known) uid held) (sym file) is_held, made_beats (Covered w.all x.known) d x.volume _ x.consumed moment r held u file is_held is);
+      },
+    )
 
 unused : (w : World) (d : ℕ) (own : ℕ) → IsSoundWorld w → own ≡ d → IsUnused w.all (record { db = own; version = (w.at d).consumed })
 unused w d own sound e u here is =

@@ -11,4 +11,4 @@ pub returns : goal.returns
 returns c =
     c.beaten_by.ensures
     ∙ ap (λ found. option_map Beaten (kept_if (λ held. not (key_lt held (key_of c.args.update.now))) (option_map key_of found)))
-      (c.held.ensures ∙ ap (λ (m : Machine). held_of m.book.records c.args.update.now.uid) c.self.view_is)
+    (c.held.ensures ∙ ap (λ (m : Machine). held_of m.book.records c.args.update.now.uid) c.self.view_is)

@@ -24,7 +24,7 @@ record-requires c =
     let Numbered : Machine → Type 0 = λ x. x.volume.next_usn < 2 ^ 64 - 1 in
     record {
       may = may_at m c.args.self.now c.consumed-usn.result (Some c.in-Ok-Make.update) c.consumed-usn.ensures c.self.view_is
-          (may_record m c.args.moment (Some c.in-Ok-Make.update) c.self.invariant (subst Numbered (sym c.self.view_is) c.requires) (sym c.in-Ok-Make.field-0-is ∙ c.in-Ok-Make.ensures.answer) (subst HasClock c.in-Ok-Make.field-0-is c.in-Ok-Make.ensures.clock))
+          (may_record m c.args.moment (Some c.in-Ok-Make.update) c.self.invariant (subst Numbered (sym c.self.view_is) c.requires) (sym c.in-Ok-Make.field-0-is ∙ c.in-Ok-Make.ensures.answer) (subst HasClock c.in-Ok-Make.field-0-is c.in-Ok-Make.ensures.clock));
     }
 
 pub returns-in-Ok-Make-clause-answers : goal.returns-in-Ok-Make-clause-answers

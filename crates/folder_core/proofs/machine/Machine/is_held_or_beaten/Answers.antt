@@ -10,4 +10,4 @@ pub returns : goal.returns
 returns c =
     c.stands_by.ensures
     ∙ ap (λ found. some_is (λ r. not (key_lt (key_of r) (key_of c.args.update.now))) found)
-      (c.held.ensures ∙ ap (λ (m : Machine). held_of m.book.records c.args.update.now.uid) c.self.view_is)
+    (c.held.ensures ∙ ap (λ (m : Machine). held_of m.book.records c.args.update.now.uid) c.self.view_is)

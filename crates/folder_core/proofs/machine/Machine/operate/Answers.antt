@@ -21,7 +21,7 @@ invariant_of-self-2 c =
     let local = subst Local (sym c.self.view_is) c.requires.local in
     let numbers = subst Numbered (sym c.self.view_is) c.requires.numbers in
     let is : c.take.new.self.state ≡ effect c.args.cmd m.volume =
-        c.take.ensures ∙ (ap (λ s. step c.in_ok-ready.ready s) c.in_ok-ready.ensures.same
-        ∙ (ap (λ r. step r m.volume) c.in_ok-ready.ensures.command ∙ does_effect m c.args.cmd c.self.invariant numbers allowed)) in
+    c.take.ensures ∙ (ap (λ s. step c.in_ok-ready.ready s) c.in_ok-ready.ensures.same
+    ∙ (ap (λ r. step r m.volume) c.in_ok-ready.ensures.command ∙ does_effect m c.args.cmd c.self.invariant numbers allowed)) in
     let laws : VolumeLaws = record { on = c.step_laws.ensures.on; numbering = c.step_laws.ensures.numbering; free = c.step_laws.ensures.free } in
     subst Sound (sym is) (operated_sound laws m c.args.cmd c.self.invariant numbers allowed local (subst IsVolume is c.objects.ensures.valid))
