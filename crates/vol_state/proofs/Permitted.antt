@@ -1,28 +1,15 @@
 -- A command that an operation comes to may be done.
-use Rattle.std.proofs.Common.{◌≡◌, ◌≢◌, ◌≤◌, ◌<◌, ◌-◌, ◌⊎◌, inl, inr, ℕ, zero, suc, Bool, true, false, eqb, ltb, List, [], ◌∷◌, ◌++◌, length, get_or, Option, Some, None, Result, Ok, Err, refl, sym, ap, ◌∙◌, subst, arith}
-use Rattle.std.proofs.lemmas.Bool.Decides.{nat_tests, eqb_tells}
-use Rattle.std.proofs.lemmas.Bool.{false≢true}
-use Rattle.std.specs.Prelude.{is_some, if◌then◌else◌}
-use Rattle.frs_base.specs.Options.{In, none_or}
+use Rattle.std.proofs.Common.{◌≡◌, ◌⊎◌, inl, inr, ℕ, suc, false, List, [], ◌∷◌, length, Result, Ok, Err, refl, sym, subst}
 use Rattle.vol_state.specs.declared.object.Object.{Object}
-use Rattle.vol_state.specs.declared.operation.LocalOp.{LocalOp}
 use Rattle.vol_state.specs.declared.operation.LocalOp.TheVariants as op
 use Rattle.vol_state.specs.declared.operation.Refused.{Refused}
-use Rattle.vol_state.specs.declared.operation.Refused.TheVariants.{TooLarge, NoPath, NotDirectory, Looped, NameTaken, NotEmpty}
+use Rattle.vol_state.specs.declared.operation.Refused.TheVariants.{TooLarge, NoPath, Looped, NameTaken, NotEmpty}
 use Rattle.vol_state.specs.declared.command.VolCmd.{VolCmd}
 use Rattle.vol_state.specs.declared.command.VolCmd.TheVariants.{PutNew, PutOver, Mkdir, Move, Remove}
-use Rattle.vol_state.specs.Places.{object_at, is_directory, is_directory_at, is_reached, is_child, child, has_children, is_beneath}
-use Rattle.vol_state.specs.Paths.{then_, present, entered, walk, home, last_name, target, largest, put_over, make_over, move_over, resolve}
-use Rattle.vol_state.specs.State.{State}
-use Rattle.vol_state.specs.Valid.{IsVolume}
-use Rattle.vol_state.specs.Maps.{Maps, Stands}
-use Rattle.vol_state.specs.Tables.{IsAt, IsDirectory, LeadsBy, IsReached, IsBeneath, IsFree, IsEmpty, IsLocal}
-use Rattle.vol_state.specs.Ways.{IsChild, HasDirectory, HasFile, HasNobody, Goes, IsWay, Stops, IsNoWay, Follows, Finds, Puts, Makes, Moves, Removes, Resolves, ListsResolve, ResolvesToOne, ResolvedMay}
-use Rattle.vol_state.proofs.Climbing.{by_cases, differ}
-use Rattle.vol_state.proofs.Trees.{away}
-use Rattle.vol_state.proofs.Volumes.{both, find_in, find_none}
-use Rattle.vol_state.proofs.Reaching.{home_open}
-use Rattle.vol_state.proofs.Tabling.{item_of, at_item, is_child_by, child_by, child_in, directory_at, beneath_is, off_is, off_at, free_is, free_at, empty_is, empty_at}
+use Rattle.vol_state.specs.Maps.{Maps}
+use Rattle.vol_state.specs.Tables.{IsAt, IsDirectory, LeadsBy, IsReached, IsFree, IsLocal}
+use Rattle.vol_state.specs.Ways.{IsChild, HasNobody, Goes, IsWay, Follows, Finds, Puts, Makes, Moves, Removes, ResolvedMay}
+use Rattle.vol_state.proofs.Climbing.{by_cases}
 
 -- what stands in a directory that is reached is reached
 child_leads : (m : Maps) (parent : ℕ) (name : List ℕ) (fid : ℕ) (o : Object) → IsChild m parent name fid o → IsReached m parent → IsReached m fid

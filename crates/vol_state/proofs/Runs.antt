@@ -1,11 +1,9 @@
 -- A journal whose USNs run.
-use Rattle.std.proofs.Common.{◌≡◌, ◌+◌, ◌<◌, ◌&&◌, ℕ, zero, suc, Bool, true, false, eqb, List, [], ◌∷◌, ◌++◌, length, Option, Some, None, refl, ap, arith}
+use Rattle.std.proofs.Common.{◌≡◌, ◌+◌, ◌<◌, ◌&&◌, ℕ, zero, suc, Bool, true, false, eqb, List, [], ◌∷◌, ◌++◌, length, None, refl, arith}
 use Rattle.std.specs.Prelude.{slice_get}
 use Rattle.std.proofs.lemmas.Bool.Decides.{nat_tests}
-use Rattle.frs_base.specs.declared.version.Uid.{Uid}
 use Rattle.vol_state.specs.declared.record.VolRecord.{VolRecord}
-use Rattle.vol_state.specs.Journal.{RunsFrom, record_at, last_local, later_or}
-use Rattle.frs_base.specs.Versions.{same_uid}
+use Rattle.vol_state.specs.Journal.{RunsFrom, record_at}
 use Rattle.vol_state.proofs.Climbing.{differ}
 
 pub none_before : (low usn : ℕ) → usn < low → (rs : List VolRecord) → RunsFrom low rs → record_at rs usn ≡ None

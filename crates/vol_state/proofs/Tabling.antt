@@ -1,12 +1,11 @@
 -- The code's tests say what the tables say, over the maps that the lists stand for.
-use Rattle.std.proofs.Common.{◌≡◌, ◌≢◌, ◌≤◌, ◌||◌, ◌&&◌, not, ◌⊎◌, inl, inr, ℕ, zero, suc, Bool, true, false, eqb, leb, List, [], ◌∷◌, length, Option, Some, None, refl, sym, ap, ◌∙◌, subst, arith}
+use Rattle.std.proofs.Common.{◌≡◌, ◌≢◌, ◌||◌, ◌&&◌, not, inl, inr, ℕ, zero, suc, Bool, true, false, eqb, leb, List, [], ◌∷◌, length, Option, Some, None, refl, sym, ap, ◌∙◌, subst, arith}
 use Rattle.std.proofs.lemmas.Bool.Decides.{nat_tests, eqb_tells}
 use Rattle.std.proofs.lemmas.Bool.{false≢true}
 use Rattle.std.specs.Prelude.{is_some, option_map}
 use Rattle.frs_base.specs.Names.{matches}
 use Rattle.frs_base.specs.Options.{In, some_is, none_or}
 use Rattle.frs_base.specs.Versions.{same_uid}
-use Rattle.frs_base.specs.declared.kind.Kind.{Kind}
 use Rattle.frs_base.specs.declared.version.Uid.{Uid}
 use Rattle.vol_state.specs.declared.object.Object.{Object}
 use Rattle.vol_state.specs.declared.command.VolCmd.TheVariants.{PutNew, PutOver, Mkdir, Move, Remove, Park, Erase, Make, Rewrite, Place}
@@ -15,11 +14,11 @@ use Rattle.vol_state.specs.State.{State, uid_of, object_of}
 use Rattle.vol_state.specs.Tree.{Ends}
 use Rattle.vol_state.specs.Valid.{IsVolume}
 use Rattle.vol_state.specs.Laws.{AreFree}
-use Rattle.vol_state.specs.Conditions.{is_placed, is_in_limbo, is_file, is_open, is_open_object, is_within, is_free, can_move, can_stand, can_make, root_uid, is_allowed}
+use Rattle.vol_state.specs.Conditions.{is_placed, is_in_limbo, is_file, is_open, is_open_object, is_within, is_free, can_move, can_stand, root_uid}
 use Rattle.vol_state.specs.Maps.{Maps, Stands}
-use Rattle.vol_state.specs.Tables.{IsAt, IsDirectory, LeadsBy, IsReached, BeneathBy, IsBeneath, IsFree, IsEmpty, IsNew, IsOpen, IsLocal, IsReplica, TestsAreTables, TablesAreTests}
+use Rattle.vol_state.specs.Tables.{IsAt, IsDirectory, LeadsBy, IsReached, BeneathBy, IsBeneath, IsFree, IsEmpty, IsNew, IsOpen, TestsAreTables, TablesAreTests}
 use Rattle.vol_state.proofs.Climbing.{by_cases}
-use Rattle.vol_state.proofs.Finding.{at_in, at_low, in_at}
+use Rattle.vol_state.proofs.Finding.{at_in, in_at}
 use Rattle.vol_state.proofs.Trees.{beneath, away, ends_directory}
 use Rattle.vol_state.proofs.Volumes.{both, not_so, some_of, some_there, find_in, find_none, is_same, free_of, nobody_or}
 use Rattle.vol_state.proofs.Reaching.{Under, or_true, under_up, is_beneath_by}
