@@ -70,13 +70,7 @@ fn file_of(member: u64, version: u64) -> Uid {
 
 /// An update of this file, made by this version at this clock; the word says of what: a `file`, a
 /// `directory`, or a file of a `foreign` content set.
-fn update_of(
-    alloc: Global,
-    word: &str,
-    gvsn: Gvsn,
-    uid: Uid,
-    clock: u64,
-) -> Result<Update, Fail> {
+fn update_of(alloc: Global, word: &str, gvsn: Gvsn, uid: Uid, clock: u64) -> Result<Update, Fail> {
     Ok(Update {
         present: true,
         name_conflict: false,
