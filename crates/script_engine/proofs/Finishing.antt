@@ -8,6 +8,7 @@ use Rattle.version_vector.specs.declared.interval.Interval.{Interval}
 use Rattle.win_order.specs.Order.{key_lt, key_of}
 use Rattle.win_order.specs.declared.update.Update.{Update}
 use Rattle.vol_state.specs.Maps.{Stands}
+use Rattle.vol_state.specs.State.{State}
 use Rattle.record_db.specs.declared.command.BookCmd.TheVariants as cmd
 use Rattle.record_db.specs.Records.{IsHeldOrBeaten, Versions, both}
 use Rattle.record_db.specs.Steps.{IsStep, own_version}
@@ -40,6 +41,7 @@ pub record Finishes (w : World) (d : ℕ) (s : Versions) (m : Machine) (reply : 
   pub step : Step w d (Finish s) after
   pub reply_is : reply ≡ Finished
   pub goes : Goes w d m new after
+  pub usns : new.volume.next_usn ≡ m.volume.next_usn
 
 -- the vector would have too many intervals
 pub record IsTooWide (w : World) (d : ℕ) (s : Versions) (m : Machine) (reply : Reply) (new : Machine) : Type 0 where
@@ -116,6 +118,7 @@ takes w d s sent seen m reply new sound stands order may (inl (said, changed)) =
         ours = λ h. h;
         counted = let same = changed.book.consumed in omega (arith, same);
       };
+      usns = ap (λ (v : State). v.next_usn) changed.volume;
     })
 takes w d s sent seen m reply new sound stands order may (inr (count, (full, (said, same)))) = inr (record {
   count = count;

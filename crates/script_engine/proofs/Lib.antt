@@ -17,6 +17,7 @@ pub mod Consumption
 pub mod Adopting
 pub mod Serving
 pub mod Finishing
+pub mod Events
 pub mod Orders
 pub mod Once
 pub mod OneText

@@ -11,4 +11,6 @@ pub mod Laws
 pub mod Text
 pub mod Sound
 pub mod Standing
+pub mod Replies
+pub mod Engines
 pub mod Scripts

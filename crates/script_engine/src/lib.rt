@@ -3,16 +3,19 @@
 
 mod consumed;
 mod count;
+mod engine;
 mod laws;
 mod lines;
 mod names;
 mod records;
 mod refusal;
+mod replies;
 mod rows;
 mod tree;
 mod words;
 
 pub use consumed::Consumed;
+pub use engine::Engine;
 pub use laws::{trees_are_one, volumes_have_trees};
 pub use names::MemberName;
 pub use records::records_text;

@@ -1,0 +1,93 @@
+// The members of a script.
+ghost use Rattle.std.specs.Prelude.{◌≡◌, ◌<◌, ◌^◌, IfOk, OnOk, length};
+ghost use Rattle.frs_base.specs.Identifiers.{database_of};
+ghost use Rattle.folder_core.specs.Replay.{IsEarlyEvent};
+ghost use Rattle.script_engine.specs.Scene.{Scene, fresh_scene, in_world};
+
+use crate::replies::{consumed_of, usn_of};
+use crate::{Consumed, MemberName, Refusal};
+use folder_core::{Event, Folder, Reply};
+use frs_base::ReservedVec;
+use std::alloc::{AllocError, Global};
+use vol_state::{LocalOp, Refused};
+
+/// Who the events of lines come from.
+const SCRIPT: u64 = 0;
+
+/// The members of a script: the k-th has the k-th database, counted from 1.
+#[derive(Drop)]
+pub struct Engine {
+    names: ReservedVec<MemberName>,
+    folders: ReservedVec<Folder>,
+}
+
+impl Engine {
+    ghost use Rattle.std.specs.Prelude.{◌+◌, ℕ};
+    ghost use Rattle.world_model.specs.World.{World};
+    ghost use Rattle.script_engine.specs.Engines.{Answered, ConsumedNext, HasScene, IsWithin, Operated, Stands, consumed_by_all, made_by_all};
+
+    /// An engine without members, which takes no memory.
+    pub fn new() -> Engine
+        ensures stands { Stands result fresh_scene }
+        ensures within { IsWithin 0 result }
+    {
+        Engine {
+            names: ReservedVec::empty(),
+            folders: ReservedVec::empty(),
+        }
+    }
+
+    /// An event at the member with this place.
+    fn event(&mut self, alloc: Global, at: usize, event: Event) -> Result<Reply, AllocError>
+        requires within { at < length self.old.folders.items }
+        requires early { IsEarlyEvent event }
+        ensures names { self.new.names ≡ self.old.names }
+        ensures ok { IfOk result (λ reply. Answered at event reply self.old self.new) }
+    {
+        let mut folder = self.folders.remove(at);
+        let reply = folder.event(alloc, SCRIPT, event);
+        let _ = folder.book();
+        self.folders.insert(at, folder);
+        reply
+    }
+
+    /// A local operation: its USN, or its first refusal.
+    fn operate(
+        &mut self,
+        alloc: Global,
+        at: usize,
+        operation: LocalOp,
+    ) -> Result<Result<u64, Refused>, AllocError>
+        requires within { at < length self.old.folders.items }
+        requires scene { HasScene self.old }
+        ensures ok { (s : Scene) → Stands self.old s → IfOk result (λ outcome. (w : World) × Operated s.world (database_of (at + 1)) operation outcome w × Stands self.new (in_world s w)) }
+        ensures made { (n : ℕ) → IsWithin n self.old → OnOk result (IsWithin (n + 1) self.new) }
+    {
+        let reply = self.event(alloc, at, Event::Local(operation))?;
+        let Some(outcome) = usn_of(reply) else {
+            unreachable!()
+        };
+        Ok(outcome)
+    }
+
+    /// Consumes the next journal record, if there is one.
+    fn consume(
+        &mut self,
+        alloc: Global,
+        at: usize,
+        moment: u64,
+    ) -> Result<Result<Option<Consumed>, Refusal>, AllocError>
+        requires within { at < length self.old.folders.items }
+        requires scene { HasScene self.old }
+        requires early { moment < 2 ^ 61 }
+        requires room { made_by_all self.old < 2 ^ 60 }
+        ensures ok { (s : Scene) → Stands self.old s → IfOk result (λ outcome. (w : World) × ConsumedNext s.world (database_of (at + 1)) moment outcome w × Stands self.new (in_world s w)) }
+        ensures made { OnOk result (made_by_all self.new ≡ made_by_all self.old) }
+    {
+        let reply = self.event(alloc, at, Event::Consume { moment })?;
+        let Some(outcome) = consumed_of(&reply) else {
+            unreachable!()
+        };
+        Ok(outcome)
+    }
+}
