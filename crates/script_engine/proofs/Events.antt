@@ -1,6 +1,6 @@
 -- What the calls of an engine do to the scene that it stands for, one event each.
 use Rattle.std.proofs.Common.{◌≡◌, ◌≢◌, ◌<◌, ◌≤◌, ◌+◌, ◌-◌, ◌^◌, ◌⊎◌, ℕ, List, [], ◌∷◌, length, set, refl, sym, ap, ◌∙◌, subst, arith, inl, inr, Option, Some, None, Result, Ok, Err}
-use Rattle.std.specs.Prelude.{slice_get, sum_by}
+use Rattle.std.specs.Prelude.{IfOk, insert, map, remove, slice_get, slice_index_or, sum_by}
 use Rattle.std.proofs.lemmas.Option.{slice_get_within}
 use Rattle.frs_base.specs.Identifiers.{database_of}
 use Rattle.win_order.specs.declared.update.Update.{Update}
@@ -9,23 +9,27 @@ use Rattle.vol_state.specs.declared.operation.Refused.{Refused}
 use Rattle.world_model.specs.World.{Member, World}
 use Rattle.world_model.specs.Events.{Records, consumed_by, consumes}
 use Rattle.world_model.proofs.Changing.{at_same}
+use Rattle.folder_core.specs.declared.event.Event.{Event}
 use Rattle.folder_core.specs.declared.event.Event.TheVariants as event
 use Rattle.folder_core.specs.declared.reply.Reply.{Reply}
 use Rattle.folder_core.specs.Machine.{Machine}
+use Rattle.folder_core.specs.Replay.{Does, Seen}
+use Rattle.folder_core.specs.Sound.{IsSound}
 use Rattle.script_engine.specs.declared.consumed.Consumed.{Consumed}
 use Rattle.script_engine.specs.declared.consumed.Consumed.TheVariants as consumed
 use Rattle.script_engine.specs.declared.engine.Engine.{Engine}
 use Rattle.script_engine.specs.declared.refusal.Refusal.{Refusal}
 use Rattle.script_engine.specs.declared.refusal.Refusal.TheVariants.{VectorFull}
 use Rattle.script_engine.specs.Named.{AreNamed}
-use Rattle.script_engine.specs.Scene.{Scene, in_world}
+use Rattle.script_engine.specs.Scene.{Scene, fresh_scene, in_world}
 use Rattle.script_engine.specs.Consuming.{widened}
 use Rattle.script_engine.specs.Widening.{Fits}
 use Rattle.script_engine.specs.Standing.{HaveRoom, MachineStands, MachinesStand, consumed_in, made_in}
-use Rattle.script_engine.specs.Engines.{Answered, ConsumedNext, Operated, Stands, consumed_by_all, machines_of, made_by_all}
+use Rattle.script_engine.specs.Engines.{Answered, ConsumedNext, Operated, Stands, consumed_by_all, count_of, machines_of, made_by_all}
 use Rattle.script_engine.specs.Replies.{consumed_of, usn_of}
-use Rattle.script_engine.proofs.Pairs.{in_sum, set_same, sum_less, sum_set}
+use Rattle.script_engine.proofs.Pairs.{get_map, get_read, in_sum, map_set, put_back, set_same, sum_less, sum_set}
 use Rattle.script_engine.proofs.Advancing.{Goes, machines_on}
+use Rattle.script_engine.proofs.Scenes.{fresh_scene_sound}
 use Rattle.script_engine.proofs.Operating.{Done, Stays, operates}
 use Rattle.script_engine.proofs.Consumption.{AreBounded, Consumes, Ends, IsTooFull, consumes_at, reply_of}
 
@@ -111,12 +115,6 @@ operated_on at operation reply old new s h names a =
 
 -- ---- a journal record consumed
 
--- how many were consumed
-abbrev pub count_of : Result (Option Consumed) Refusal → ℕ
-count_of (Ok None) = 0
-count_of (Ok (Some c)) = 1
-count_of (Err why) = 0
-
 pub record ConsumesAt (at moment : ℕ) (reply : Reply) (old new : Engine) (s : Scene) : Type 0 where
   pub outcome : Result (Option Consumed) Refusal
   pub reads : consumed_of reply ≡ Some outcome
@@ -199,3 +197,38 @@ consumed_on at moment reply old new s early room h names a =
       made = same_made full.same;
       more = same_consumed full.same;
     }
+
+-- ---- an event
+
+-- what a folder answers, its engine answers
+pub answered_by : (caller at : ℕ) (e : Event) (reply : Reply) (old new : Engine) (before after : Seen) → at < length old.folders.items → before ≡ slice_index_or old.folders.items at before
+    → new.folders.items ≡ insert (remove old.folders.items at) at after → Does caller e reply before after → IsSound after.machine → Answered at e reply old new
+answered_by caller at e reply old new before after within is items (entry, history, enters) sound = record {
+  place = length before.history + 1;
+  before = before.machine;
+  after = after.machine;
+  found = get_map (λ (f : Seen). f.machine) old.folders.items at before (get_read old.folders.items at before within is);
+  answers = enters.answers;
+  order = sound.order;
+  machines = ap (map (λ (f : Seen). f.machine)) (items ∙ put_back old.folders.items at after within) ∙ map_set (λ (f : Seen). f.machine) old.folders.items at after;
+}
+
+-- what holds of each answer holds of the one that came
+pub ok_by : {T E : Type 0} (r : Result T E) (P Q : T → Type 0) → IfOk r P → ((x : T) → P x → Q x) → IfOk r Q
+ok_by (Ok x) P Q h f = f x h
+ok_by (Err e) P Q h f = tt
+
+-- ---- no members
+
+pub fresh_stands : (e : Engine) → e.names.items ≡ [] → e.folders.items ≡ [] → Stands e fresh_scene
+fresh_stands e names folders = record {
+  names = names;
+  formed = subst (AreNamed) (sym names) (λ k d within. absurd (omega (arith, within)));
+  machines = subst (λ ms. MachinesStand ms fresh_scene) (sym (ap (map (λ (f : Seen). f.machine)) folders)) (record {
+    many = refl;
+    each = λ k m at. absurd (cc);
+    ours = λ u here. absurd here;
+    counted = omega arith;
+    scene = fresh_scene_sound;
+  });
+}

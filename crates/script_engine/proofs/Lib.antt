@@ -18,6 +18,7 @@ pub mod Adopting
 pub mod Serving
 pub mod Finishing
 pub mod Events
+pub mod Exhausting
 pub mod Orders
 pub mod Once
 pub mod OneText

@@ -1,5 +1,6 @@
 -- Which scene an engine stands for, and what one event at a member makes of it.
-use Rattle.std.specs.Prelude.{◌≡◌, ◌<◌, ◌≤◌, ◌+◌, ◌^◌, ℕ, List, [], Option, Some, None, Result, Ok, Err, map, option_to_list, slice_get, slice_set, sum_by}
+use Rattle.std.specs.Prelude.{◌≡◌, ◌<◌, ◌≤◌, ◌+◌, ◌^◌, ℕ, List, [], ◌∷◌, Option, Some, None, MatchOption, Result, Ok, Err, map, option_to_list, slice_get, slice_set, sum_by}
+use Rattle.frs_base.specs.Identifiers.{database_of}
 use Rattle.vol_state.specs.declared.command.VolCmd.{VolCmd}
 use Rattle.vol_state.specs.declared.operation.LocalOp.{LocalOp}
 use Rattle.vol_state.specs.declared.operation.Refused.{Refused}
@@ -14,9 +15,11 @@ use Rattle.folder_core.specs.Sound.{IsInOrder}
 use Rattle.script_engine.specs.declared.consumed.Consumed.{Consumed}
 use Rattle.script_engine.specs.declared.engine.Engine.{Engine}
 use Rattle.script_engine.specs.declared.refusal.Refusal.{Refusal}
+use Rattle.script_engine.specs.declared.refusal.Refusal.TheVariants.{Unknown}
 use Rattle.script_engine.specs.Consuming.{ConsumesAll, ConsumesNext}
 use Rattle.script_engine.specs.Named.{AreNamed}
-use Rattle.script_engine.specs.Scene.{Scene, members_of}
+use Rattle.script_engine.specs.Scene.{Scene, members_of, place_of}
+use Rattle.script_engine.specs.Text.{IsRefused}
 use Rattle.script_engine.specs.Standing.{MachinesStand, consumed_in, made_in}
 
 -- the members' machines
@@ -71,3 +74,28 @@ Operated w d operation (Err why) new = Resolves (w.at d).volume operation (Err w
 abbrev pub ConsumedNext : World → ℕ → ℕ → Result (Option Consumed) Refusal → World → Type 0
 ConsumedNext w d moment (Ok consumed) new = ConsumesNext w d moment (option_to_list consumed) None new
 ConsumedNext w d moment (Err why) new = ConsumesNext w d moment [] (Some why) new
+
+-- how many journal records were consumed
+abbrev pub count_of : Result (Option Consumed) Refusal → ℕ
+count_of (Ok None) = 0
+count_of (Ok (Some consumed)) = 1
+count_of (Err why) = 0
+
+-- ---- several
+
+-- the last of consumed records
+abbrev pub last_of : List Consumed → Option Consumed
+last_of [] = None
+last_of (c ∷ []) = Some c
+last_of (c ∷ more ∷ rest) = last_of (more ∷ rest)
+
+-- records are consumed until none is left, and the last of them is this one, or one is refused
+abbrev pub ConsumedAll : World → ℕ → ℕ → Result (Option Consumed) Refusal → World → Type 0
+ConsumedAll w d moment (Ok last) new = (done : List Consumed) × ConsumesAll w d moment done None new × (last_of done ≡ last)
+ConsumedAll w d moment (Err why) new = (done : List Consumed) × ConsumesAll w d moment done (Some why) new
+
+-- ---- lines
+
+-- a line at a member: without the member it is refused, else this comes of it
+abbrev pub AtNamed : Scene → List ℕ → (ℕ → List ℕ → Scene → Type 0) → List ℕ → Scene → Type 0
+AtNamed s name Comes text new = MatchOption (place_of s.names name) (IsRefused s (Unknown name) text new) (λ k. Comes (database_of (k + 1)) text new)

@@ -1,5 +1,5 @@
 // The members of a script.
-ghost use Rattle.std.specs.Prelude.{◌≡◌, ◌<◌, ◌^◌, IfOk, OnOk, length};
+ghost use Rattle.std.specs.Prelude.{◌≡◌, ◌<◌, ◌≤◌, ◌^◌, IfOk, OnOk, length};
 ghost use Rattle.frs_base.specs.Identifiers.{database_of};
 ghost use Rattle.folder_core.specs.Replay.{IsEarlyEvent};
 ghost use Rattle.script_engine.specs.Scene.{Scene, fresh_scene, in_world};
@@ -24,7 +24,7 @@ pub struct Engine {
 impl Engine {
     ghost use Rattle.std.specs.Prelude.{◌+◌, ℕ};
     ghost use Rattle.world_model.specs.World.{World};
-    ghost use Rattle.script_engine.specs.Engines.{Answered, ConsumedNext, HasScene, IsWithin, Operated, Stands, consumed_by_all, made_by_all};
+    ghost use Rattle.script_engine.specs.Engines.{Answered, ConsumedAll, ConsumedNext, HasScene, IsWithin, Operated, Stands, consumed_by_all, count_of, made_by_all};
 
     /// An engine without members, which takes no memory.
     pub fn new() -> Engine
@@ -42,6 +42,7 @@ impl Engine {
         requires within { at < length self.old.folders.items }
         requires early { IsEarlyEvent event }
         ensures names { self.new.names ≡ self.old.names }
+        ensures many { length self.new.folders.items ≡ length self.old.folders.items }
         ensures ok { IfOk result (λ reply. Answered at event reply self.old self.new) }
     {
         let mut folder = self.folders.remove(at);
@@ -61,7 +62,9 @@ impl Engine {
         requires within { at < length self.old.folders.items }
         requires scene { HasScene self.old }
         ensures ok { (s : Scene) → Stands self.old s → IfOk result (λ outcome. (w : World) × Operated s.world (database_of (at + 1)) operation outcome w × Stands self.new (in_world s w)) }
-        ensures made { (n : ℕ) → IsWithin n self.old → OnOk result (IsWithin (n + 1) self.new) }
+        ensures made { OnOk result (made_by_all self.new ≤ made_by_all self.old + 1) }
+        ensures names { self.new.names ≡ self.old.names }
+        ensures many { length self.new.folders.items ≡ length self.old.folders.items }
     {
         let reply = self.event(alloc, at, Event::Local(operation))?;
         let Some(outcome) = usn_of(reply) else {
@@ -83,11 +86,39 @@ impl Engine {
         requires room { made_by_all self.old < 2 ^ 60 }
         ensures ok { (s : Scene) → Stands self.old s → IfOk result (λ outcome. (w : World) × ConsumedNext s.world (database_of (at + 1)) moment outcome w × Stands self.new (in_world s w)) }
         ensures made { OnOk result (made_by_all self.new ≡ made_by_all self.old) }
+        ensures more { IfOk result (λ outcome. consumed_by_all self.new ≡ consumed_by_all self.old + count_of outcome) }
+        ensures names { self.new.names ≡ self.old.names }
+        ensures many { length self.new.folders.items ≡ length self.old.folders.items }
     {
         let reply = self.event(alloc, at, Event::Consume { moment })?;
         let Some(outcome) = consumed_of(&reply) else {
             unreachable!()
         };
         Ok(outcome)
+    }
+
+    /// Consumes what is left of the journal. The last of it, or why one is refused.
+    fn consume_all(
+        &mut self,
+        alloc: Global,
+        at: usize,
+        moment: u64,
+    ) -> Result<Result<Option<Consumed>, Refusal>, AllocError>
+        requires within { at < length self.old.folders.items }
+        requires scene { HasScene self.old }
+        requires early { moment < 2 ^ 61 }
+        requires room { made_by_all self.old < 2 ^ 60 }
+        ensures ok { (s : Scene) → Stands self.old s → IfOk result (λ outcome. (w : World) × ConsumedAll s.world (database_of (at + 1)) moment outcome w × Stands self.new (in_world s w)) }
+        ensures made { OnOk result (made_by_all self.new ≡ made_by_all self.old) }
+        ensures names { self.new.names ≡ self.old.names }
+    {
+        let mut last = None;
+        loop {
+            match self.consume(alloc, at, moment)? {
+                Ok(Some(consumed)) => last = Some(consumed),
+                Ok(None) => return Ok(Ok(last)),
+                Err(refusal) => return Ok(Err(refusal)),
+            }
+        }
     }
 }
