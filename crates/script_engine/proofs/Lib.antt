@@ -19,6 +19,7 @@ pub mod Serving
 pub mod Finishing
 pub mod Events
 pub mod Exhausting
+pub mod Spoken
 pub mod Orders
 pub mod Once
 pub mod OneText

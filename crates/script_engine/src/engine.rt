@@ -1,8 +1,12 @@
 // The members of a script.
-ghost use Rattle.std.specs.Prelude.{◌≡◌, ◌<◌, ◌≤◌, ◌^◌, IfOk, OnOk, length};
+ghost use Rattle.std.specs.Prelude.{◌≡◌, ◌<◌, ◌≤◌, ◌^◌, IfOk, OnOk, Some, bytes_eq, length, position, slice_get};
 ghost use Rattle.frs_base.specs.Identifiers.{database_of};
 ghost use Rattle.folder_core.specs.Replay.{IsEarlyEvent};
 ghost use Rattle.script_engine.specs.Scene.{Scene, fresh_scene, in_world};
+
+mod journal;
+mod operations;
+mod printing;
 
 use crate::replies::{consumed_of, usn_of};
 use crate::{Consumed, MemberName, Refusal};
@@ -34,6 +38,27 @@ impl Engine {
         Engine {
             names: ReservedVec::empty(),
             folders: ReservedVec::empty(),
+        }
+    }
+
+    /// The place of the first member with this name.
+    fn place_of(&self, name: &[u8]) -> Option<usize>
+        ensures { result ≡ position (λ m. bytes_eq m.name name.now) self.now.names.items }
+    {
+        self.names
+            .as_slice()
+            .iter()
+            .position(|m| m.name.as_slice() == name)
+    }
+
+    /// The folder of the member with this place.
+    fn folder(&self, at: usize) -> &Folder
+        requires { at < length self.now.folders.items }
+        ensures { slice_get self.now.folders.items at ≡ Some result.now }
+    {
+        match self.folders.as_slice().get(at) {
+            Some(folder) => folder,
+            None => unreachable!(),
         }
     }
 
