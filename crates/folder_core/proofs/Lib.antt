@@ -5,3 +5,7 @@ pub mod Bounds
 pub mod Agreeing
 pub mod Sounding
 pub mod Fitting
+pub mod Consuming
+pub mod Finishing
+pub mod Replaying
+pub mod OneAnswer

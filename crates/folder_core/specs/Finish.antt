@@ -1,5 +1,5 @@
 -- A round is finished.
-use Rattle.std.specs.Prelude.{◌≡◌, ◌⊎◌, ◌≤◌, not, ℕ, Bool, true, false, List, Option, MatchOption, find}
+use Rattle.std.specs.Prelude.{◌≡◌, ◌⊎◌, ◌≤◌, ◌==◌, ◌&&◌, nat_lt, not, ℕ, Bool, true, false, List, Option, MatchOption, find}
 use Rattle.frs_base.specs.Options.{some_is}
 use Rattle.version_vector.specs.Versions.{covers}
 use Rattle.version_vector.specs.declared.interval.Interval.{Interval}
@@ -25,6 +25,10 @@ IsLeastAhead m sent version = HasAhead m sent version × ((other : ℕ) → HasA
 -- there is none
 abbrev pub HasNoneAhead : Machine → List Interval → Type 0
 HasNoneAhead m sent = (version : ℕ) → HasAhead m sent version → ⊥
+
+-- an interval of the database reaches past the version
+abbrev pub is_past : ℕ → ℕ → Interval → Bool
+is_past db version i = i.db == db && nat_lt version i.high
 
 -- the record of the update's file has no smaller key
 abbrev pub is_held_or_beaten : List Update → Update → Bool

@@ -10,3 +10,4 @@ pub mod Answers
 pub mod Sound
 pub mod Replay
 pub mod Given
+pub mod Laws

@@ -66,6 +66,10 @@ IsEarly (File uid) = ⊤
 IsEarly (Adopt from at update form) = ⊤
 IsEarly (Finish from at sent seen) = ⊤
 
+-- so is that of an event
+abbrev pub IsEarlyEvent : Event → Type 0
+IsEarlyEvent event = IsEarly (note_of event)
+
 -- so is each of a history
 abbrev pub AreEarly : List Entry → Type 0
 AreEarly history = AllByRecursion (λ entry. IsEarly entry.note) history

@@ -9,6 +9,8 @@ mod answer;
 mod copies;
 mod entry;
 mod event;
+mod folder;
+mod laws;
 mod machine;
 mod mark;
 mod note;
@@ -17,7 +19,12 @@ mod reply;
 
 pub use entry::Entry;
 pub use event::Event;
+pub use folder::Folder;
+pub use laws::{answers_are_one, runs_are_one};
 pub use mark::{FileMark, Mark};
 pub use note::{LocalNote, Note};
 pub use refusal::Refusal;
 pub use reply::Reply;
+
+#[cfg(test)]
+mod tests;

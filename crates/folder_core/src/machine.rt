@@ -1,5 +1,7 @@
 // The machine of a member.
-ghost use Rattle.std.specs.Prelude.{◌≡◌};
+ghost use Rattle.std.specs.Prelude.{◌≡◌, ◌<◌, ◌-◌, ◌^◌, IfOk, OnErr};
+ghost use Rattle.folder_core.specs.Answers.{Answers};
+ghost use Rattle.folder_core.specs.Given.{IsNoted};
 ghost use Rattle.folder_core.specs.Machine.{fresh_machine};
 ghost use Rattle.folder_core.specs.Sound.{IsSound};
 
@@ -10,8 +12,11 @@ mod finish;
 mod local;
 mod serve;
 
+use crate::Event;
+use crate::answer::Answer;
 use frs_base::{Guid, MemberKind};
 use record_db::Book;
+use std::alloc::{AllocError, Global};
 use std::marker::Model;
 use vol_state::Volume;
 
@@ -61,5 +66,37 @@ impl Machine {
         ensures sound { IsSound self.now }
     {
         &self.book
+    }
+
+    /// An event, whose entry is at this place. After an error the machine is as it was.
+    pub(crate) fn answer(
+        &mut self,
+        alloc: Global,
+        at: u64,
+        event: Event,
+    ) -> Result<Answer, AllocError>
+        requires { self.old.volume.next_usn < 2 ^ 64 - 1 }
+        ensures answers { IfOk result (λ answer. Answers at self.old event answer.reply self.new) }
+        ensures noted { IfOk result (λ answer. IsNoted answer self.old self.new) }
+        ensures err { OnErr result (self.new ≡ self.old) }
+    {
+        match event {
+            Event::Local(operation) => self.local(alloc, operation),
+            Event::Consume { moment } => self.consume(alloc, moment),
+            Event::Vector => self.vector(alloc, at),
+            Event::File { uid } => self.file(alloc, at, &uid),
+            Event::Adopt {
+                from: _,
+                at: _,
+                update,
+                form: _,
+            } => self.adopt(alloc, update),
+            Event::Finish {
+                from: _,
+                at: _,
+                sent,
+                seen,
+            } => self.finish(alloc, sent, seen.as_slice()),
+        }
     }
 }

@@ -1,9 +1,13 @@
 // Taking a partner's update.
-ghost use Rattle.std.specs.Prelude.{◌≡◌, ◌<◌, ◌-◌, ◌^◌, IfOk, OnErr};
+ghost use Rattle.std.specs.Prelude.{◌≡◌, ◌<◌, ◌^◌, IfOk, OnErr, not, option_copied, option_map};
+ghost use Rattle.frs_base.specs.Options.{kept_if};
+ghost use Rattle.win_order.specs.Order.{key_lt, key_of};
 ghost use Rattle.name_rules.specs.Tree.{kind_of};
+ghost use Rattle.folder_core.specs.declared.refusal.Refusal.TheVariants.{Beaten};
 ghost use Rattle.folder_core.specs.Adopt.{AnswersAdopt, adopt_refusal, beaten, doubled, kind_at, kind_differs, own_ahead, same_kind, unfit};
 ghost use Rattle.folder_core.specs.Given.{IsNoted};
 ghost use Rattle.folder_core.specs.Machine.{is_ahead};
+ghost use Rattle.folder_core.specs.Sound.{IsSound};
 
 use super::Machine;
 use crate::answer::Answer;
@@ -32,6 +36,39 @@ fn kind_of(update: &Update) -> Kind
     } else {
         Kind::File
     }
+}
+
+/// The held record's key is smaller than the update's.
+pub(super) fn is_below(held: &Update, update: &Update) -> bool
+    ensures { result ≡ key_lt (key_of held.now) (key_of update.now) }
+{
+    held.key() < update.key()
+}
+
+/// The key of the held record isn't smaller.
+fn beaten_by(held: Option<&Update>, update: &Update) -> Option<Refusal>
+    ensures { result ≡ option_map Beaten (kept_if (λ key. not (key_lt key (key_of update.now))) (option_map key_of (option_copied held.entry))) }
+{
+    let record = held?;
+    if is_below(record, update) {
+        None
+    } else {
+        Some(Refusal::Beaten { held: record.key() })
+    }
+}
+
+/// The number of an update's version.
+fn version_of(update: &Update) -> u64
+    ensures { result ≡ update.now.gvsn.version }
+{
+    update.gvsn.version
+}
+
+/// The number of an update's version has 64 bits.
+fn fits(update: &Update)
+    ensures { update.now.gvsn.version < 2 ^ 64 }
+{
+    let _ = version_of(update);
 }
 
 impl Machine {
@@ -68,13 +105,13 @@ impl Machine {
     }
 
     /// What the member has of a file: its record says the kind, or where none is held its object.
-    fn kind_at(&self, uid: Uid) -> Option<Kind>
-        ensures { result ≡ kind_at self.now uid }
+    fn kind_at(&self, uid: &Uid) -> Option<Kind>
+        ensures { result ≡ kind_at self.now uid.now }
     {
-        if let Some(record) = self.book.held(uid) {
+        if let Some(record) = self.book.held(*uid) {
             return Some(kind_of(record));
         }
-        match self.volume.object_of(uid) {
+        match self.volume.object_of(*uid) {
             None => None,
             Some(object) => Some(object.kind),
         }
@@ -84,7 +121,7 @@ impl Machine {
     fn kind_differs(&self, update: &Update) -> Option<Refusal>
         ensures { result ≡ kind_differs self.now update.now }
     {
-        let held = self.kind_at(update.uid)?;
+        let held = self.kind_at(&update.uid)?;
         if same_kind(held, kind_of(update)) {
             None
         } else {
@@ -96,12 +133,7 @@ impl Machine {
     fn beaten(&self, update: &Update) -> Option<Refusal>
         ensures { result ≡ beaten self.now update.now }
     {
-        let record = self.book.held(update.uid)?;
-        if record.key() < update.key() {
-            None
-        } else {
-            Some(Refusal::Beaten { held: record.key() })
-        }
+        beaten_by(self.book.held(update.uid), update)
     }
 
     /// The version of the update is covered.
@@ -118,8 +150,10 @@ impl Machine {
 
     /// The first refusal of an update.
     fn adopt_refusal(&self, update: &Update) -> Option<Refusal>
-        ensures { result ≡ adopt_refusal self.now update.now }
+        ensures refusal { result ≡ adopt_refusal self.now update.now }
+        ensures sound { IsSound self.now }
     {
+        let _ = &self.volume;
         if let Some(why) = self.unfit(update) {
             return Some(why);
         }
@@ -144,6 +178,7 @@ impl Machine {
         if let Some(why) = self.adopt_refusal(&update) {
             return Ok(Answer::refused(&why));
         }
+        fits(&update);
         let cmd = BookCmd::Adopt { update };
         self.widen(alloc, cmd, Reply::Adopted, Mark::Adopted)
     }

@@ -1,32 +1,58 @@
 // Finishing a round.
-ghost use Rattle.std.specs.Prelude.{◌≡◌, IfOk, MatchOption, OnErr, OnOk, find, option_copied, true};
-ghost use Rattle.version_vector.specs.declared.interval.Interval.{Interval};
+ghost use Rattle.std.specs.Prelude.{◌≡◌, ◌↔◌, IfOk, IsTrue, MatchOption, OnErr, find, not, option_copied};
+ghost use Rattle.frs_base.specs.Options.{some_is};
+ghost use Rattle.win_order.specs.Order.{key_lt, key_of};
 ghost use Rattle.record_db.specs.declared.command.BookCmd.TheVariants.{Finish};
 ghost use Rattle.folder_core.specs.declared.reply.Reply.TheVariants.{Finished};
 ghost use Rattle.folder_core.specs.Books.{Takes};
-ghost use Rattle.folder_core.specs.Finish.{AnswersFinish, HasNoneAhead, IsLeastAhead, first_unheld, is_held_or_beaten};
+ghost use Rattle.folder_core.specs.Finish.{AnswersFinish, HasNoneAhead, IsLeastAhead, first_unheld, is_held_or_beaten, is_past};
 ghost use Rattle.folder_core.specs.Given.{IsNoted, StaysSound};
+ghost use Rattle.folder_core.specs.Sound.{IsSound};
 
 use super::Machine;
+use super::adopt::is_below;
 use crate::answer::Answer;
 use crate::{Mark, Refusal, Reply};
+use frs_base::Guid;
 use record_db::BookCmd;
 use std::alloc::{AllocError, Global};
-use version_vector::{Vector, VectorError};
+use version_vector::{Interval, Vector, VectorError};
 use win_order::Update;
+
+/// The first interval of a database that reaches past a version.
+fn first_past(intervals: &[Interval], db: Guid, version: u64) -> Option<&Interval>
+    ensures { option_copied result ≡ find (λ i. is_past db version i) intervals.now }
+{
+    intervals
+        .iter()
+        .find(|interval| interval.db == db && version < interval.high)
+}
+
+/// The held record has no smaller key.
+fn stands_by(held: Option<&Update>, update: &Update) -> bool
+    ensures { result ≡ some_is (λ r. not (key_lt (key_of r) (key_of update.now))) (option_copied held.entry) }
+{
+    match held {
+        None => false,
+        Some(record) => !is_below(record, update),
+    }
+}
+
+/// The vectors have the same intervals.
+fn are_same(a: &Vector, b: &Vector) -> bool
+    ensures { IsTrue result ↔ (a.now ≡ b.now) }
+{
+    a.intervals() == b.intervals()
+}
 
 impl Machine {
     /// The least own version of a vector that isn't consumed.
     fn least_ahead(&self, sent: &Vector) -> Option<u64>
-        ensures { MatchOption result (HasNoneAhead self.now sent.now) (λ version. IsLeastAhead self.now sent.now version) }
+        ensures least { MatchOption result (HasNoneAhead self.now sent.now) (λ version. IsLeastAhead self.now sent.now version) }
+        ensures sound { IsSound self.now }
     {
-        let own = self.book.own();
         let consumed = self.book.consumed();
-        let found = sent
-            .intervals()
-            .iter()
-            .find(|interval| interval.db == own && consumed < interval.high);
-        match found {
+        match first_past(sent.intervals(), self.book.own(), consumed) {
             None => None,
             Some(interval) => Some(consumed.max(interval.low)),
         }
@@ -36,10 +62,7 @@ impl Machine {
     fn is_held_or_beaten(&self, update: &Update) -> bool
         ensures { result ≡ is_held_or_beaten self.now.book.records update.now }
     {
-        match self.book.held(update.uid) {
-            None => false,
-            Some(record) => !(record.key() < update.key()),
-        }
+        stands_by(self.book.held(update.uid), update)
     }
 
     /// The first update that is neither held nor beaten.
@@ -59,7 +82,7 @@ impl Machine {
         let before = self.book.vector().copy(alloc)?;
         match self.go_on(alloc, BookCmd::Finish { sent }) {
             Ok(()) => {
-                let moved = before.intervals() != self.book.vector().intervals();
+                let moved = !are_same(&before, self.book.vector());
                 Ok(Answer {
                     reply: Reply::Finished,
                     mark: Mark::Finished,

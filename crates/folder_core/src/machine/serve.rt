@@ -26,14 +26,14 @@ impl Machine {
     }
 
     /// What the member has of a file, as of the entry at this place.
-    pub(crate) fn file(&self, alloc: Global, at: u64, uid: Uid) -> Result<Answer, AllocError>
-        ensures answers { IfOk result (λ answer. AnswersFile uid at self.now answer.reply self.now) }
+    pub(crate) fn file(&self, alloc: Global, at: u64, uid: &Uid) -> Result<Answer, AllocError>
+        ensures answers { IfOk result (λ answer. AnswersFile uid.now at self.now answer.reply self.now) }
         ensures noted { IfOk result (λ answer. IsNoted answer self.now self.now) }
     {
-        let (found, mark) = match self.book.held(uid) {
+        let (found, mark) = match self.book.held(*uid) {
             None => (FileAnswer::NoRecord, FileMark::NoRecord),
             Some(record) => {
-                if let Some(usn) = self.volume.pending_local(uid, self.book.consumed()) {
+                if let Some(usn) = self.volume.pending_local(*uid, self.book.consumed()) {
                     (FileAnswer::NotYet { usn }, FileMark::NotYet { usn })
                 } else {
                     let update = record.copy(alloc)?;
