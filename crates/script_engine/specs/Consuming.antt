@@ -1,7 +1,6 @@
 -- What comes of consuming a member's journal.
 use Rattle.std.specs.Prelude.{◌≡◌, ◌⊎◌, ℕ, List, [], ◌∷◌, Option, Some, None}
 use Rattle.win_order.specs.declared.update.Update.{Update}
-use Rattle.frs_base.specs.declared.version.Gvsn.{Gvsn}
 use Rattle.record_db.specs.Records.{Versions, plus}
 use Rattle.world_model.specs.World.{World}
 use Rattle.world_model.specs.Events.{Records, consumes}

@@ -1,14 +1,13 @@
 -- What comes of a pull.
-use Rattle.std.specs.Prelude.{◌≡◌, ◌≢◌, ◌⊎◌, ◌≤◌, ℕ, Bool, true, false, List, [], ◌∷◌, ◌++◌, ◌+◌, Option, Some, None, length}
+use Rattle.std.specs.Prelude.{◌≡◌, ◌⊎◌, ◌≤◌, ℕ, true, false, List, [], ◌∷◌, ◌+◌, Option, Some, None}
 use Rattle.std.specs.List.{AllByRecursion}
 use Rattle.frs_base.specs.Options.{In}
 use Rattle.frs_base.specs.Versions.{gvsn_lt}
 use Rattle.frs_base.specs.declared.version.Uid.{Uid}
 use Rattle.win_order.specs.declared.update.Update.{Update}
 use Rattle.vol_state.specs.declared.record.VolRecord.{VolRecord}
-use Rattle.record_db.specs.Records.{Versions, both, plus, IsRecord}
+use Rattle.record_db.specs.Records.{Versions, both, plus}
 use Rattle.name_rules.specs.Tree.{is_file}
-use Rattle.name_rules.specs.Next.{IsPending}
 use Rattle.world_model.specs.World.{World, IsRecordOf}
 use Rattle.world_model.specs.Events.{Step, SendVector, SendUpdate, Adopt, Finish, IsOfFile}
 use Rattle.world_model.specs.Rounds.{IsWanted}

@@ -1,5 +1,5 @@
 -- Why a line is refused, and what it then prints.
-use Rattle.std.specs.Prelude.{◌≡◌, ℕ, List, [], ◌∷◌, Option, Some, None, bytes_eq, codes, decimal, if◌then◌else◌, is_some}
+use Rattle.std.specs.Prelude.{ℕ, List, [], ◌∷◌, Option, Some, None, bytes_eq, codes, decimal, if◌then◌else◌, is_some}
 use Rattle.vol_state.specs.declared.operation.Refused.{Refused}
 use Rattle.vol_state.specs.declared.operation.Refused.TheVariants.{TooLarge, NoPath, NotDirectory, Looped, NameTaken, NotEmpty}
 use Rattle.script_lang.specs.declared.line.Line.{Line}

@@ -1,6 +1,5 @@
 -- The text of a script: what its lines do to the world, and what they print.
-use Rattle.std.specs.Prelude.{◌≡◌, ℕ, ◌+◌, ◌%◌, zero, suc, List, [], ◌∷◌, ◌++◌, MatchOption, MatchResult, Option, Some, None, Result, codes, count_by, decimal, flat_map, length}
-use Rattle.frs_base.specs.declared.kind.MemberKind.{MemberKind}
+use Rattle.std.specs.Prelude.{◌≡◌, ℕ, ◌%◌, zero, suc, List, [], ◌∷◌, ◌++◌, MatchOption, MatchResult, Option, Some, None, Result, codes, count_by, decimal, flat_map, length}
 use Rattle.version_vector.specs.declared.interval.Interval.{Interval}
 use Rattle.win_order.specs.declared.update.Update.{Update}
 use Rattle.vol_state.specs.declared.command.VolCmd.{VolCmd}

@@ -1,5 +1,5 @@
 -- The tree of a volume, as it is printed.
-use Rattle.std.specs.Prelude.{◌≡◌, ◌==◌, ◌&&◌, ◌||◌, nat_lt, ℕ, suc, Bool, true, false, List, [], ◌∷◌, ◌++◌, codes, decimal, flat_map, length, map}
+use Rattle.std.specs.Prelude.{◌≡◌, ◌==◌, ◌&&◌, ◌||◌, nat_lt, ℕ, suc, Bool, true, false, List, [], ◌∷◌, codes, decimal, flat_map, length, map}
 use Rattle.std.specs.List.{AllByRecursion, join_with_byte}
 use Rattle.frs_base.specs.Options.{In}
 use Rattle.frs_base.specs.declared.kind.Kind.{Kind}

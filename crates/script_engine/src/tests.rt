@@ -1,5 +1,5 @@
 // What no contract says: that the calls succeed, and what they print, written out by hand.
-ghost use Rattle.std.specs.Prelude.{IfOk};
+ghost use Rattle.std.specs.Prelude.{◌≡◌, IfOk};
 ghost use Rattle.script_engine.specs.Named.{AreNamed};
 
 use super::*;
@@ -22,7 +22,9 @@ fn name_of(alloc: Global, text: &str) -> Result<Name, Fail> {
     Ok(Name::from_units(alloc, &units)?)
 }
 
-fn bytes_of(alloc: Global, text: &str) -> Result<Bytes, Fail> {
+fn bytes_of(alloc: Global, text: &str) -> Result<Bytes, Fail>
+    ensures { IfOk result (λ bytes. bytes ≡ text.now) }
+{
     Ok(Bytes::of(Vec::from_slice(alloc, text.as_bytes())?))
 }
 
@@ -224,7 +226,10 @@ fn vectors_print_their_intervals(rt: HostRuntime) -> Result<(), Fail> {
 #[test]
 fn counts_leave_out_tombstones_and_directories(rt: HostRuntime) -> Result<(), Fail> {
     let book = book(rt.alloc())?;
-    let volume = volume_of(rt.alloc(), "dir 0 a\nfile 1 b 12\nfile 0 c 1\nfile 0 l 1\npark 4")?;
+    let volume = volume_of(
+        rt.alloc(),
+        "dir 0 a\nfile 1 b 12\nfile 0 c 1\nfile 0 l 1\npark 4",
+    )?;
     let rows = tree_rows(rt.alloc(), &volume)?;
     let text = count_text(rt.alloc(), book.records(), &rows, book.vector().intervals())?;
     assert_eq!(rt; text.as_str(), "records 4 live 3 files 2 intervals 3\n");
@@ -234,7 +239,10 @@ fn counts_leave_out_tombstones_and_directories(rt: HostRuntime) -> Result<(), Fa
 #[test]
 fn refusals_print_their_numbers_and_values(rt: HostRuntime) -> Result<(), Fail> {
     for (why, want) in [
-        (Refused::TooLarge { length: 1_048_577 }, "refused 10 toolarge 1048577\n"),
+        (
+            Refused::TooLarge { length: 1_048_577 },
+            "refused 10 toolarge 1048577\n",
+        ),
         (Refused::NoPath, "refused 5 nopath\n"),
         (Refused::NotDirectory, "refused 6 notdir\n"),
         (Refused::NotEmpty, "refused 7 notempty\n"),
@@ -267,21 +275,15 @@ fn lines_print_what_they_did(rt: HostRuntime) -> Result<(), Fail> {
     ] {
         assert_eq!(rt; last_text(alloc, name, last)?.as_str(), want);
     }
-    for (refusal, want) in [
-        (
-            Refusal::Unknown {
-                name: bytes_of(alloc, "abc")?,
-            },
-            "refused 1 unknown abc\n",
-        ),
-        (
-            Refusal::Exists {
-                name: bytes_of(alloc, "abc")?,
-            },
-            "refused 2 exists abc\n",
-        ),
-    ] {
-        assert_eq!(rt; refusal_text(alloc, &refusal)?.as_str(), want);
-    }
+    let unknown = Refusal::Unknown {
+        name: bytes_of(alloc, "abc")?,
+    };
+    let text = refusal_text(alloc, &unknown)?;
+    assert_eq!(rt; text.as_str(), "refused 1 unknown abc\n");
+    let there = Refusal::Exists {
+        name: bytes_of(alloc, "abc")?,
+    };
+    let text = refusal_text(alloc, &there)?;
+    assert_eq!(rt; text.as_str(), "refused 2 exists abc\n");
     Ok(())
 }

@@ -4,7 +4,7 @@ use Rattle.std.specs.List.{list_all}
 use Rattle.std.specs.Result.{IsOk, MatchResult}
 use Rattle.std.proofs.lemmas.Bool.Decides.{nat_tests}
 use Rattle.std.proofs.lemmas.Str.{IsUtf8-from_ascii}
-use Rattle.script_lang.specs.Grammar.{is_member_name, is_small_letter}
+use Rattle.script_lang.specs.Grammar.{is_small_letter}
 use Rattle.script_engine.proofs.names.text_of.Goals as goal
 
 letters : (name : List ℕ) → list_all is_small_letter name ≡ true → IsAscii name

@@ -1,6 +1,5 @@
 use Rattle.std.proofs.Common.{◌≡◌, ◌-◌, ◌+◌, ◌∙◌, ◌++◌, ◌∷◌, [], suc, length, map, None, Some, sym, ap, arith, refl}
 use Rattle.std.proofs.lemmas.List.{map_push}
-use Rattle.vol_state.specs.Places.{object_at}
 use Rattle.script_engine.specs.Rows.{names_up}
 use Rattle.script_engine.proofs.Climbing.{arrived, behind, climbed, from_limbo}
 use Rattle.script_engine.proofs.rows.names_up.Goals as goal
