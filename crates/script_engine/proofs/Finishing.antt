@@ -26,6 +26,7 @@ use Rattle.folder_core.specs.Machine.{Machine, Refuses}
 use Rattle.folder_core.specs.Books.{Changed, Takes}
 use Rattle.folder_core.specs.Finish.{AnswersFinish, AnswersSeen, HasAhead, first_unheld, is_held_or_beaten}
 use Rattle.folder_core.specs.Sound.{IsInOrder}
+use Rattle.script_engine.specs.Pulls.{MayFinish}
 use Rattle.script_engine.specs.Sound.{IsSoundWorld}
 use Rattle.script_engine.specs.Standing.{MachineStands}
 use Rattle.script_engine.specs.Widening.{Exceeds, Fits, IsVectorOf}
@@ -49,13 +50,6 @@ pub record IsTooWide (w : World) (d : ℕ) (s : Versions) (m : Machine) (reply :
   pub exceeds : Exceeds (both (w.at d).known s) count
   pub reply_is : reply ≡ Refused (VectorFull count)
   pub same : new ≡ m
-
--- the vector that was sent, all of whose winners are held or beaten, and so are those that were seen
-pub record MayFinish (w : World) (d : ℕ) (s : Versions) (sent : List Interval) (seen : List Update) : Type 0 where
-  pub vector : IsVectorOf s sent
-  pub was_sent : WasSentVector w s
-  pub held : IsAllHeld w d s
-  pub pages : (u : Update) → In u seen → IsHeldOrBeaten (IsRecordOf w d) u
 
 -- ---- none of the refusals stands
 

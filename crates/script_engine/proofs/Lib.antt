@@ -20,6 +20,8 @@ pub mod Finishing
 pub mod Events
 pub mod Exhausting
 pub mod Spoken
+pub mod Puller
+pub mod Paging
 pub mod Orders
 pub mod Once
 pub mod OneText

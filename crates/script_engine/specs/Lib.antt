@@ -13,4 +13,5 @@ pub mod Sound
 pub mod Standing
 pub mod Replies
 pub mod Engines
+pub mod Pulls
 pub mod Scripts

@@ -7,6 +7,7 @@ ghost use Rattle.script_engine.specs.Scene.{Scene, fresh_scene, in_world};
 mod journal;
 mod operations;
 mod printing;
+mod pulling;
 
 use crate::replies::{consumed_of, usn_of};
 use crate::{Consumed, MemberName, Refusal};
