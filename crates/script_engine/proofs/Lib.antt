@@ -22,6 +22,8 @@ pub mod Exhausting
 pub mod Spoken
 pub mod Puller
 pub mod Paging
+pub mod Asking
+pub mod Whole
 pub mod Orders
 pub mod Once
 pub mod OneText

@@ -1,12 +1,8 @@
 -- The pages and the files of a pull, one update after the other.
-use Rattle.std.proofs.Common.{◌≡◌, ◌≢◌, ◌<◌, ◌≤◌, ◌+◌, ◌++◌, ◌⊎◌, ℕ, zero, suc, Bool, true, false, not, cond, List, [], ◌∷◌, length, take, drop, get_or, refl, sym, ap, ◌∙◌, subst, arith, inl, inr, Option, Some, None, Result, Ok, Err, append_assoc, append-nil, is_lt}
+use Rattle.std.proofs.Common.{◌≡◌, ◌≢◌, ◌<◌, ◌≤◌, ◌+◌, ◌++◌, ◌⊎◌, ℕ, zero, suc, Bool, true, false, not, cond, List, [], ◌∷◌, length, take, drop, get_or, refl, sym, ap, ◌∙◌, subst, arith, inl, inr, Option, Some, None, Result, Ok, Err, append_assoc, append-nil, is_lt, MatchOption}
 use Rattle.std.specs.Prelude.{filter}
 use Rattle.std.specs.Cmp.{IsStrictWeakOrder}
-use Rattle.std.specs.List.{AllByRecursion, IsDistinct}
-use Rattle.std.specs.List.Sorted.{IsPermutation, IsSortedBy}
 use Rattle.std.proofs.lemmas.Bool.Decides.{nat_tests}
-use Rattle.std.proofs.lemmas.List.Sorted.{Contains-permutation, IsPermutation-sym, sorted_far}
-use Rattle.std.proofs.lemmas.Map.Keys.{IsDistinct-IsPermutation}
 use Rattle.frs_base.specs.Options.{In}
 use Rattle.frs_base.specs.Versions.{gvsn_lt, same_gvsn}
 use Rattle.frs_base.specs.declared.version.Gvsn.{Gvsn}
@@ -15,9 +11,9 @@ use Rattle.version_vector.specs.declared.interval.Interval.{Interval}
 use Rattle.win_order.specs.Order.{Beats, key_lt, key_of}
 use Rattle.win_order.specs.declared.update.Update.{Update}
 use Rattle.record_db.specs.Lists.{IsRising, Lists}
-use Rattle.record_db.specs.Records.{Covered, IsHeldOrBeaten, IsRecord, Versions}
+use Rattle.record_db.specs.Records.{Covered, IsHeld, IsHeldOrBeaten, IsRecord, Versions}
 use Rattle.record_db.proofs.Best.{covered_held}
-use Rattle.record_db.proofs.Keys.{not_below, same_gvsn_is, same_gvsn_refl, uid_apart}
+use Rattle.record_db.proofs.Keys.{key_cut, not_below, same_gvsn_is, same_gvsn_refl, uid_apart}
 use Rattle.record_db.proofs.Lists.{above}
 use Rattle.record_db.proofs.Sets.{in_after, in_append, in_before}
 use Rattle.name_rules.specs.Tree.{is_file}
@@ -230,6 +226,17 @@ files_end start p s files i w taken so past = (
 pub files_covered : (start w : World) (s : ℕ) (files : List Update) (u : Update) → AreCovered start s files → Grows start w → In u files → Covered w.all (w.at s).known u
 files_covered start w s files u covered grows here = let (there, known) = covered u here in (grows.all u there, grows.known s u.gvsn known)
 
+-- what the server has of a wanted file in place of an update that it covers may be taken
+pub file_can : (w : World) (p s : ℕ) (u v : Update) → Covered w.all (w.at s).known u → IsWanted w p u → v.uid ≡ u.uid → IsOfFile w s v → CanTake w p s v
+file_can w p s u v covered (held, is_held, better) file of_file = record {
+  wanted = (held, subst (λ uid. IsHeld (Covered w.all (w.at p).known) uid held) (sym file) is_held, by held better);
+  sent = inr of_file;
+}
+  where
+    by : (held : Option Update) → MatchOption held (Unit {0}) (λ r. Beats u r) → MatchOption held (Unit {0}) (λ r. Beats v r)
+    by None b = tt
+    by (Some r) b = record { file = file ∙ b.file; greater = key_cut (key_of r) (key_of v) (key_of u) b.greater (not_below v u file (λ x. of_file.0.unbeaten u covered x)) }
+
 -- ---- the page
 
 pub versions_rank : IsStrictWeakOrder version_lt
@@ -237,6 +244,3 @@ versions_rank = record {
   one_way = λ x y e. grind (arith, nat_tests);
   chain = λ x y z e f. grind (arith, nat_tests);
 }
-
-same_version : Update → Update → Bool
-same_version a b = same_gvsn a.gvsn b.gvsn

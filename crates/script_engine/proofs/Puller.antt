@@ -1,6 +1,7 @@
 -- What the events of a pull do to the scene that an engine stands for.
-use Rattle.std.proofs.Common.{◌≡◌, ◌≢◌, ◌<◌, ◌≤◌, ◌+◌, ◌-◌, ◌^◌, ◌⊎◌, ℕ, zero, suc, Bool, true, false, leb, List, [], ◌∷◌, length, set, refl, sym, ap, ◌∙◌, subst, arith, inl, inr, Option, Some, None, Result, Ok, Err, MatchOption}
+use Rattle.std.proofs.Common.{◌≡◌, ◌≢◌, ◌<◌, ◌≤◌, ◌+◌, ◌-◌, ◌^◌, ◌⊎◌, ℕ, zero, suc, Bool, true, false, leb, List, [], ◌∷◌, length, set, refl, sym, ap, ◌∙◌, subst, arith, inl, inr, Option, Some, None, Result, Ok, Err, MatchOption, IsTrue, ◌↔◌, map}
 use Rattle.std.specs.Prelude.{find, slice_get, sum_by}
+use Rattle.std.proofs.lemmas.List.{length-map}
 use Rattle.std.proofs.lemmas.Bool.Decides.{nat_tests}
 use Rattle.std.proofs.lemmas.Option.{slice_get_within}
 use Rattle.frs_base.specs.Identifiers.{database_of}
@@ -21,6 +22,7 @@ use Rattle.world_model.specs.Rounds.{IsWanted}
 use Rattle.folder_core.specs.declared.event.Event.TheVariants as event
 use Rattle.folder_core.specs.declared.reply.Reply.{Reply}
 use Rattle.folder_core.specs.Machine.{Machine}
+use Rattle.folder_core.specs.Replay.{Seen}
 use Rattle.script_engine.specs.declared.engine.Engine.{Engine}
 use Rattle.script_engine.specs.declared.engine.pulling.Fetched.{Fetched}
 use Rattle.script_engine.specs.declared.refusal.Refusal.{Refusal}
@@ -28,7 +30,8 @@ use Rattle.script_engine.specs.declared.refusal.Refusal.TheVariants.{VectorFull}
 use Rattle.script_engine.specs.Engines.{Answered, Stands, machines_of, made_by_all}
 use Rattle.script_engine.specs.Pulls.{CanTake, Ended, FetchedFrom, IsPinned, MayFinish, Says, Took}
 use Rattle.script_engine.specs.Replies.{file_of, pinned_of, taken_of}
-use Rattle.script_engine.specs.Scene.{Scene, in_world}
+use Rattle.script_engine.specs.declared.names.MemberName.{MemberName}
+use Rattle.script_engine.specs.Scene.{Scene, in_world, numbered}
 use Rattle.script_engine.specs.Sound.{IsNobodys}
 use Rattle.script_engine.specs.Standing.{HaveRoom, MachineStands, MachinesStand, made_in}
 use Rattle.script_engine.proofs.Adopting.{Adopts, IsOurs, IsTooWide as IsTooWideFor, adopts_at}
@@ -36,6 +39,7 @@ use Rattle.script_engine.proofs.Advancing.{machines_on}
 use Rattle.script_engine.proofs.Events.{few_recorded, made_after, small_at, stands_on, stands_still}
 use Rattle.script_engine.proofs.Finishing.{Finishes, IsTooWide as IsTooWideIn, finishes_at}
 use Rattle.script_engine.proofs.Pairs.{get_within}
+use Rattle.script_engine.proofs.Spoken.{machine_held}
 use Rattle.script_engine.proofs.Serving.{Sends, Waits, files_at, sent_update_stands, sent_vector_stands}
 
 -- ---- bounds
@@ -227,3 +231,43 @@ finished_on at server entry versions sent seen reply old new s h names a may =
       stands = stands_still old new s at a.before a.after h names a.found a.machines x.same;
       made = same_made old new at a.before a.after a.found a.machines (ap (λ (y : Machine). y.volume.next_usn) x.same);
     }
+
+-- ---- what a call says of them
+
+pub wants_said : (e : Engine) (s : Scene) (at : ℕ) (f : Seen) (u r : Update) (answer : Bool) → Stands e s → slice_get e.folders.items at ≡ Some f → find (λ r. same_uid r.uid u.uid) f.machine.book.records ≡ Some r
+    → IsTrue answer ↔ Beats u r → Says answer (IsWanted s.world (database_of (at + 1)) u)
+wants_said e s at f u r true h found is tells = inl (refl, wants_some s.world (database_of (at + 1)) f.machine u r (machine_held e s at f h found) is (tells.0 refl))
+wants_said e s at f u r false h found is tells =
+    inr (refl, wants_not e s (database_of (at + 1)) f.machine u r h (machine_held e s at f h found) is (λ b. let t = tells.1 b in absurd (cc)))
+
+-- the database of the member at a place
+numbered_at : (k at : ℕ) (names : List (List ℕ)) (m : MemberName) → slice_get (numbered k names) at ≡ Some m → m.db ≡ database_of (k + at)
+numbered_at k at [] m e = absurd (cc)
+numbered_at k zero (n ∷ names) m e = let same : m.db ≡ database_of k = cc in let zero_more : database_of k ≡ database_of (k + 0) = omega arith in same ∙ zero_more
+numbered_at k (suc at) (n ∷ names) m e = let rest = numbered_at (k + 1) at names m e in let next : database_of ((k + 1) + at) ≡ database_of (k + suc at) = omega arith in rest ∙ next
+
+pub database_at : (e : Engine) (s : Scene) (at : ℕ) (m : MemberName) → Stands e s → slice_get e.names.items at ≡ Some m → m.db ≡ database_of (at + 1)
+database_at e s at m h found =
+    let here = numbered_at 1 at s.names m (sym (ap (λ l. slice_get l at) h.names) ∙ found) in
+    let next : database_of (1 + at) ≡ database_of (at + 1) = omega arith in here ∙ next
+
+numbered_long : (k : ℕ) (names : List (List ℕ)) → length (numbered k names) ≡ length names
+numbered_long k [] = refl
+numbered_long k (n ∷ names) = ap suc (numbered_long (k + 1) names)
+
+pub name_there : (e : Engine) (s : Scene) (at : ℕ) → Stands e s → at < length e.folders.items → at < length e.names.items
+name_there e s at h within =
+    let many = h.machines.many in
+    let same = length-map e.folders.items (λ (f : Seen). f.machine) in
+    let long = numbered_long 1 s.names in
+    let names = ap length h.names in
+    omega (arith, within, many, same, long, names)
+
+-- what an answer says holds
+pub said_yes : (b : Bool) (P : Type 0) → Says b P → b ≡ true → P
+said_yes b P (inl (t, p)) e = p
+said_yes b P (inr (f, n)) e = absurd (cc)
+
+pub said_no : (b : Bool) (P : Type 0) → Says b P → b ≡ false → P → ⊥
+said_no b P (inl (t, p)) e = absurd (cc)
+said_no b P (inr (f, n)) e = n

@@ -12,7 +12,7 @@ mod pulling;
 use crate::replies::{consumed_of, usn_of};
 use crate::{Consumed, MemberName, Refusal};
 use folder_core::{Event, Folder, Reply};
-use frs_base::ReservedVec;
+use frs_base::{Guid, ReservedVec};
 use std::alloc::{AllocError, Global};
 use vol_state::{LocalOp, Refused};
 
@@ -61,6 +61,26 @@ impl Engine {
             Some(folder) => folder,
             None => unreachable!(),
         }
+    }
+
+    /// The name of the member with this place, and its database.
+    fn name(&self, at: usize) -> &MemberName
+        requires { at < length self.now.names.items }
+        ensures { slice_get self.now.names.items at ≡ Some result.now }
+    {
+        match self.names.as_slice().get(at) {
+            Some(name) => name,
+            None => unreachable!(),
+        }
+    }
+
+    /// The database of the member with this place.
+    fn database(&self, at: usize) -> Guid
+        requires within { at < length self.now.folders.items }
+        requires scene { HasScene self.now }
+        ensures { result ≡ database_of (at + 1) }
+    {
+        self.name(at).db
     }
 
     /// An event at the member with this place.

@@ -14,7 +14,7 @@ use super::Engine;
 use crate::Refusal;
 use crate::replies::{file_of, pinned_of, taken_of};
 use folder_core::Event;
-use frs_base::{Guid, List, Uid, database_of};
+use frs_base::{Guid, List, Uid};
 use pinned_pages::{FileAnswer, Pinned};
 use std::alloc::{AllocError, Global};
 use std::cmp::Ordering;
@@ -79,17 +79,6 @@ fn page_of(alloc: Global, vector: &Vector, records: &[Update]) -> Result<Vec<Upd
     let mut page = uncovered(alloc, vector, records)?;
     page.sort_unstable_by(|a, b| by_version(a, b));
     Ok(page)
-}
-
-/// The same updates in memory of their own.
-fn copy_updates(alloc: Global, updates: &[Update]) -> Result<List<Update>, AllocError>
-    ensures { IfOk result (λ copy. copy ≡ updates.now) }
-{
-    let mut copy = Vec::new(alloc);
-    for update in updates {
-        copy.push(update.copy(alloc)?)?;
-    }
-    Ok(List::of(copy))
 }
 
 impl Engine {
@@ -224,6 +213,7 @@ impl Engine {
         requires room { made_by_all self.old < 2 ^ 60 }
         ensures ok { (s : Scene) → Stands self.old s → ArePages s.world from page.now
             → IfOk result (λ outcome. (w : World) × PagesTaken s.world (database_of (at + 1)) from page.now outcome w × Stands self.new (in_world s w)) }
+        ensures few { IfOk result (λ outcome. IfOk outcome (λ paged. paged.taken ≤ length page.now)) }
         ensures made { OnOk result (made_by_all self.new ≡ made_by_all self.old) }
         ensures many { length self.new.folders.items ≡ length self.old.folders.items }
     {
@@ -260,10 +250,11 @@ impl Engine {
         requires room { made_by_all self.old < 2 ^ 60 }
         ensures ok { (s : Scene) → Stands self.old s → AreCovered s.world (database_of (from + 1)) files.now
             → IfOk result (λ outcome. (w : World) × FilesTaken s.world (database_of (at + 1)) (database_of (from + 1)) files.now outcome w × Stands self.new (in_world s w)) }
+        ensures few { IfOk result (λ outcome. IfOk outcome (λ taken. taken ≤ length files.now)) }
         ensures made { OnOk result (made_by_all self.new ≡ made_by_all self.old) }
         ensures many { length self.new.folders.items ≡ length self.old.folders.items }
     {
-        let server = database_of(from as u64 + 1);
+        let server = self.database(from);
         let mut taken = 0;
         for file in files {
             if self.wants(at, file) {
@@ -279,5 +270,45 @@ impl Engine {
             }
         }
         Ok(Ok(taken))
+    }
+
+    /// A round: the server's vector is asked for, its updates that the puller doesn't cover come in
+    /// order of their versions, then the files, and the round is finished. How many were taken.
+    fn pull(
+        &mut self,
+        alloc: Global,
+        at: usize,
+        from: usize,
+    ) -> Result<Result<u64, Refusal>, AllocError>
+        requires within { at < length self.old.folders.items }
+        requires there { from < length self.old.folders.items }
+        requires scene { HasScene self.old }
+        requires room { made_by_all self.old < 2 ^ 60 }
+        ensures ok { (s : Scene) → Stands self.old s
+            → IfOk result (λ outcome. (w : World) × PullEnds s.world (database_of (at + 1)) (database_of (from + 1)) outcome w × Stands self.new (in_world s w)) }
+        ensures made { OnOk result (made_by_all self.new ≡ made_by_all self.old) }
+    {
+        let server = self.database(from);
+        let pinned = self.ask(alloc, from)?;
+        let entry = pinned.at;
+        let page = page_of(
+            alloc,
+            self.folder(at).book().vector(),
+            pinned.records.as_slice(),
+        )?;
+        let paged = match self.take_pages(alloc, at, server, entry, &page)? {
+            Ok(paged) => paged,
+            Err(refusal) => return Ok(Err(refusal)),
+        };
+        let fetched = match self.take_files(alloc, at, from, &paged.listed)? {
+            Ok(fetched) => fetched,
+            Err(refusal) => return Ok(Err(refusal)),
+        };
+        let taken = paged.taken + fetched;
+        let seen = List::of(page);
+        match self.finish(alloc, at, server, entry, pinned.vector, seen)? {
+            Ok(()) => Ok(Ok(taken)),
+            Err(refusal) => Ok(Err(refusal)),
+        }
     }
 }
