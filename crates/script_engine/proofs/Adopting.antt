@@ -18,7 +18,7 @@ use Rattle.vol_state.specs.declared.object.Object.{Object}
 use Rattle.vol_state.specs.Conditions.{root_uid}
 use Rattle.vol_state.specs.Maps.{Stands}
 use Rattle.vol_state.specs.Places.{object_at}
-use Rattle.vol_state.specs.State.{object_of, uid_of}
+use Rattle.vol_state.specs.State.{State, object_of, uid_of}
 use Rattle.vol_state.specs.Tables.{IsAt}
 use Rattle.vol_state.proofs.Finding.{in_at}
 use Rattle.record_db.specs.declared.command.BookCmd.TheVariants as cmd
@@ -59,6 +59,7 @@ pub record Adopts (w : World) (d : ℕ) (u : Update) (m : Machine) (reply : Repl
   pub step : Step w d (Adopt u) after
   pub reply_is : reply ≡ Adopted
   pub goes : Goes w d m new after
+  pub usns : new.volume.next_usn ≡ m.volume.next_usn
 
 -- its version would make too many intervals
 pub record IsTooWide (w : World) (d : ℕ) (u : Update) (m : Machine) (reply : Reply) (new : Machine) : Type 0 where
@@ -223,6 +224,7 @@ takes w d u m reply new sound s order ours sent wanted (inl (said, changed)) =
         ours = λ h. h;
         counted = let same = changed.book.consumed in omega (arith, same);
       };
+      usns = ap (λ (v : State). v.next_usn) changed.volume;
     })
 takes w d u m reply new sound s order ours sent wanted (inr (count, (full, (said, same)))) = inr (record {
   count = count;

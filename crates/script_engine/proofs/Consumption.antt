@@ -66,6 +66,7 @@ pub record Consumes (w : World) (d moment : ℕ) (m : Machine) (reply : Reply) (
   pub fits : Fits (widened w d)
   pub reply_is : reply ≡ reply_of d (w.at d).consumed made
   pub goes : Goes w d m new (consumes w d made)
+  pub usns : new.volume.next_usn ≡ m.volume.next_usn
 
 -- its version would make too many intervals
 pub record IsTooFull (w : World) (d moment : ℕ) (m : Machine) (reply : Reply) (new : Machine) : Type 0 where
@@ -228,6 +229,7 @@ book_takes w d moment m reply new made (early, few, low) sound ours s order reco
   fits = fits_by _ (widened w d) new.book.vector (widths w d m s) changed.book.vector changed.within;
   reply_is = said;
   goes = goes_by w d moment m new made early sound ours s order records (grind (arith, nat_tests)) changed;
+  usns = ap (λ (v : State). v.next_usn) changed.volume;
 })
 book_takes w d moment m reply new made (early, few, low) sound ours s order records (inr (count, (full, (said, same)))) = inr (record {
   made = made;

@@ -8,6 +8,7 @@ use Rattle.version_vector.specs.declared.interval.Interval.{Interval}
 use Rattle.win_order.specs.Order.{key_lt, key_of}
 use Rattle.win_order.specs.declared.update.Update.{Update}
 use Rattle.vol_state.specs.Maps.{Stands}
+use Rattle.vol_state.specs.State.{State}
 use Rattle.record_db.specs.declared.command.BookCmd.TheVariants as cmd
 use Rattle.record_db.specs.Records.{IsHeldOrBeaten, Versions, both}
 use Rattle.record_db.specs.Steps.{IsStep, own_version}
@@ -25,6 +26,7 @@ use Rattle.folder_core.specs.Machine.{Machine, Refuses}
 use Rattle.folder_core.specs.Books.{Changed, Takes}
 use Rattle.folder_core.specs.Finish.{AnswersFinish, AnswersSeen, HasAhead, first_unheld, is_held_or_beaten}
 use Rattle.folder_core.specs.Sound.{IsInOrder}
+use Rattle.script_engine.specs.Pulls.{MayFinish}
 use Rattle.script_engine.specs.Sound.{IsSoundWorld}
 use Rattle.script_engine.specs.Standing.{MachineStands}
 use Rattle.script_engine.specs.Widening.{Exceeds, Fits, IsVectorOf}
@@ -40,6 +42,7 @@ pub record Finishes (w : World) (d : ℕ) (s : Versions) (m : Machine) (reply : 
   pub step : Step w d (Finish s) after
   pub reply_is : reply ≡ Finished
   pub goes : Goes w d m new after
+  pub usns : new.volume.next_usn ≡ m.volume.next_usn
 
 -- the vector would have too many intervals
 pub record IsTooWide (w : World) (d : ℕ) (s : Versions) (m : Machine) (reply : Reply) (new : Machine) : Type 0 where
@@ -47,13 +50,6 @@ pub record IsTooWide (w : World) (d : ℕ) (s : Versions) (m : Machine) (reply :
   pub exceeds : Exceeds (both (w.at d).known s) count
   pub reply_is : reply ≡ Refused (VectorFull count)
   pub same : new ≡ m
-
--- the vector that was sent, all of whose winners are held or beaten, and so are those that were seen
-pub record MayFinish (w : World) (d : ℕ) (s : Versions) (sent : List Interval) (seen : List Update) : Type 0 where
-  pub vector : IsVectorOf s sent
-  pub was_sent : WasSentVector w s
-  pub held : IsAllHeld w d s
-  pub pages : (u : Update) → In u seen → IsHeldOrBeaten (IsRecordOf w d) u
 
 -- ---- none of the refusals stands
 
@@ -116,6 +112,7 @@ takes w d s sent seen m reply new sound stands order may (inl (said, changed)) =
         ours = λ h. h;
         counted = let same = changed.book.consumed in omega (arith, same);
       };
+      usns = ap (λ (v : State). v.next_usn) changed.volume;
     })
 takes w d s sent seen m reply new sound stands order may (inr (count, (full, (said, same)))) = inr (record {
   count = count;

@@ -17,6 +17,13 @@ pub mod Consumption
 pub mod Adopting
 pub mod Serving
 pub mod Finishing
+pub mod Events
+pub mod Exhausting
+pub mod Spoken
+pub mod Puller
+pub mod Paging
+pub mod Asking
+pub mod Whole
 pub mod Orders
 pub mod Once
 pub mod OneText

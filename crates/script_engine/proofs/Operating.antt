@@ -1,10 +1,11 @@
 -- A local operation at a member's machine is one at the member.
 use Rattle.std.proofs.Common.{◌≡◌, ◌≢◌, ◌<◌, ◌≤◌, ◌+◌, ◌⊎◌, ℕ, true, false, List, length, refl, sym, ap, ◌∙◌, subst, arith, inl, inr, MatchResult, Result, Ok, Err}
 use Rattle.vol_state.specs.declared.command.VolCmd.{VolCmd}
+use Rattle.vol_state.specs.declared.command.VolCmd.TheVariants.{PutNew, PutOver, Mkdir, Move, Remove, Park, Erase, Make, Rewrite, Place}
 use Rattle.vol_state.specs.declared.operation.LocalOp.{LocalOp}
 use Rattle.vol_state.specs.declared.operation.Refused.{Refused}
 use Rattle.vol_state.specs.Effects.{effect}
-use Rattle.vol_state.specs.Maps.{Stands, write}
+use Rattle.vol_state.specs.Maps.{Maps, Stands, write}
 use Rattle.vol_state.specs.Paths.{resolve}
 use Rattle.vol_state.specs.Tables.{IsLocal}
 use Rattle.vol_state.specs.Ways.{Resolves}
@@ -35,6 +36,7 @@ pub record Done (w : World) (d : ℕ) (op : LocalOp) (m : Machine) (reply : Repl
   pub step : Step w d (LocalEvent cmd) after
   pub reply_is : reply ≡ Usn (w.at d).volume.next_usn
   pub goes : Goes w d m new after
+  pub usns : new.volume.next_usn ≡ m.volume.next_usn + 1
 
 -- it is refused
 pub record Stays (w : World) (d : ℕ) (op : LocalOp) (m : Machine) (reply : Reply) (new : Machine) : Type 0 where
@@ -61,6 +63,19 @@ operated_stands w d cmd m new s order may is =
       volume = subst (λ v. Stands v (write d cmd x.volume)) (sym (ap (λ (y : Machine). y.volume) is)) own;
     }
 
+-- each command writes one journal record
+write_next : (own : ℕ) (cmd : VolCmd) (m : Maps) → (write own cmd m).next_usn ≡ m.next_usn + 1
+write_next own (PutNew parent name bytes) m = refl
+write_next own (PutOver fid bytes) m = refl
+write_next own (Mkdir parent name) m = refl
+write_next own (Move fid parent name) m = refl
+write_next own (Remove fid) m = refl
+write_next own (Park fid) m = refl
+write_next own (Erase fid) m = refl
+write_next own (Make uid kind bytes) m = refl
+write_next own (Rewrite fid bytes) m = refl
+write_next own (Place fid parent name) m = refl
+
 done : (w : World) (d : ℕ) (op : LocalOp) (cmd : VolCmd) (m : Machine) (reply : Reply) (new : Machine) → IsSoundWorld w → MachineStands w.all (w.at d) d m → IsInOrder new
     → Resolves (w.at d).volume op (Ok cmd) → Operates cmd m reply new → Done w d op m reply new
 done w d op cmd m reply new sound s order resolves (said, is) =
@@ -80,6 +95,7 @@ done w d op cmd m reply new sound s order resolves (said, is) =
         ours = λ h. h;
         counted = let same = ap (λ (y : Machine). y.book.consumed) is in omega (arith, same);
       };
+      usns = sym (operated_stands w d cmd m new s order may is).volume.next_usn ∙ write_next d cmd (w.at d).volume ∙ ap (λ n. n + 1) s.volume.next_usn;
     }
 
 -- it is done, or refused

@@ -1,6 +1,6 @@
 -- What stands at the places of a list.
-use Rattle.std.proofs.Common.{◌≡◌, ◌≢◌, ◌<◌, ◌≤◌, ◌+◌, ◌-◌, ℕ, zero, suc, List, [], ◌∷◌, ◌++◌, length, get_or, set, refl, sym, ap, ◌∙◌, subst, Some, None, arith}
-use Rattle.std.specs.Prelude.{slice_get, sum_by}
+use Rattle.std.proofs.Common.{◌≡◌, ◌≢◌, ◌<◌, ◌≤◌, ◌+◌, ◌-◌, ℕ, zero, suc, List, [], ◌∷◌, ◌++◌, length, get_or, map, set, refl, sym, ap, ◌∙◌, subst, Some, None, arith}
+use Rattle.std.specs.Prelude.{insert, remove, slice_get, sum_by}
 use Rattle.std.proofs.lemmas.List.Sums.{sum_by-cons}
 
 pub get_set_same : {X : Type 0} (xs : List X) (k : ℕ) (x y : X) → slice_get xs k ≡ Some x → slice_get (set xs k y) k ≡ Some y
@@ -40,6 +40,38 @@ get_set_cases P (a ∷ xs) zero zero x y z at found new old = let same : y ≡ z
 get_set_cases P (a ∷ xs) zero (suc j) x y z at found new old = old (omega arith) found
 get_set_cases P (a ∷ xs) (suc k) zero x y z at found new old = old (omega arith) found
 get_set_cases P (a ∷ xs) (suc k) (suc j) x y z at found new old = get_set_cases P xs k j x y z at found (λ e. new (ap suc e)) (λ n e. old (λ q. n (omega (arith, q))) e)
+
+-- an item set to itself
+pub set_same : {X : Type 0} (xs : List X) (k : ℕ) (x : X) → slice_get xs k ≡ Some x → set xs k x ≡ xs
+set_same [] k x e = refl
+set_same (a ∷ xs) zero x e = let same : x ≡ a = cc in ap (λ y. y ∷ xs) same
+set_same (a ∷ xs) (suc k) x e = ap (λ ys. a ∷ ys) (set_same xs k x e)
+
+-- an item that is taken out and put back changed
+pub put_back : {X : Type 0} (xs : List X) (k : ℕ) (y : X) → k < length xs → insert (remove xs k) k y ≡ set xs k y
+put_back [] k y l = absurd (omega (arith, l))
+put_back (a ∷ xs) zero y l = refl
+put_back (a ∷ xs) (suc k) y l = ap (λ ys. a ∷ ys) (put_back xs k y (omega (arith, l)))
+
+pub map_set : {X Y : Type 0} (f : X → Y) (xs : List X) (k : ℕ) (x : X) → map f (set xs k x) ≡ set (map f xs) k (f x)
+map_set f [] k x = refl
+map_set f (a ∷ xs) zero x = refl
+map_set f (a ∷ xs) (suc k) x = ap (λ ys. f a ∷ ys) (map_set f xs k x)
+
+pub get_within : {X : Type 0} (xs : List X) (k : ℕ) → k < length xs → (x : X) × (slice_get xs k ≡ Some x)
+get_within [] k l = absurd (omega (arith, l))
+get_within (x ∷ xs) zero l = (x, refl)
+get_within (x ∷ xs) (suc k) l = get_within xs k (omega (arith, l))
+
+pub get_map : {X Y : Type 0} (f : X → Y) (xs : List X) (k : ℕ) (x : X) → slice_get xs k ≡ Some x → slice_get (map f xs) k ≡ Some (f x)
+get_map f [] k x e = absurd (cc)
+get_map f (a ∷ xs) zero x e = let same : a ≡ x = cc in ap (λ y. Some (f y)) same
+get_map f (a ∷ xs) (suc k) x e = get_map f xs k x e
+
+pub get_read : {X : Type 0} (xs : List X) (k : ℕ) (x : X) → k < length xs → x ≡ get_or xs k x → slice_get xs k ≡ Some x
+get_read [] k x l e = absurd (omega (arith, l))
+get_read (a ∷ xs) zero x l e = ap Some (sym e)
+get_read (a ∷ xs) (suc k) x l e = get_read xs k x (omega (arith, l)) e
 
 -- ---- sums
 

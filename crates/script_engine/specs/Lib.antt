@@ -11,4 +11,7 @@ pub mod Laws
 pub mod Text
 pub mod Sound
 pub mod Standing
+pub mod Replies
+pub mod Engines
+pub mod Pulls
 pub mod Scripts

@@ -3,16 +3,19 @@
 
 mod consumed;
 mod count;
+mod engine;
 mod laws;
 mod lines;
 mod names;
 mod records;
 mod refusal;
+mod replies;
 mod rows;
 mod tree;
 mod words;
 
 pub use consumed::Consumed;
+pub use engine::Engine;
 pub use laws::{
     beginnings_go_on, equal_vectors_have_equal_records, every_line_prints, every_script_prints,
     fresh_scenes_are_sound, lines_keep_scenes_sound, lines_print_one_text, one_text,

@@ -74,7 +74,8 @@ pub(crate) fn last_text(
     }
 }
 
-fn unknown_text(alloc: Global, name: &[u8]) -> Result<String, AllocError>
+/// What a line prints that names no member.
+pub(crate) fn unknown_text(alloc: Global, name: &[u8]) -> Result<String, AllocError>
     requires { is_member_name name.now ≡ true }
     ensures { IfOk result (λ text. string_bytes text ≡ refused_text (Unknown name.now)) }
 {
@@ -82,7 +83,8 @@ fn unknown_text(alloc: Global, name: &[u8]) -> Result<String, AllocError>
     format!(in alloc; "refused 1 unknown {name}\n")
 }
 
-fn exists_text(alloc: Global, name: &[u8]) -> Result<String, AllocError>
+/// What a `member` line prints whose name is taken.
+pub(crate) fn exists_text(alloc: Global, name: &[u8]) -> Result<String, AllocError>
     requires { is_member_name name.now ≡ true }
     ensures { IfOk result (λ text. string_bytes text ≡ refused_text (Exists name.now)) }
 {
@@ -91,7 +93,7 @@ fn exists_text(alloc: Global, name: &[u8]) -> Result<String, AllocError>
 }
 
 /// What the first refusal of a local operation prints.
-fn local_text(alloc: Global, why: Refused) -> Result<String, AllocError>
+pub(crate) fn local_text(alloc: Global, why: Refused) -> Result<String, AllocError>
     ensures { IfOk result (λ text. string_bytes text ≡ refused_text (Local why)) }
 {
     match why {

@@ -1,0 +1,234 @@
+-- What the calls of an engine do to the scene that it stands for, one event each.
+use Rattle.std.proofs.Common.{◌≡◌, ◌≢◌, ◌<◌, ◌≤◌, ◌+◌, ◌-◌, ◌^◌, ◌⊎◌, ℕ, List, [], ◌∷◌, length, set, refl, sym, ap, ◌∙◌, subst, arith, inl, inr, Option, Some, None, Result, Ok, Err}
+use Rattle.std.specs.Prelude.{IfOk, insert, map, remove, slice_get, slice_index_or, sum_by}
+use Rattle.std.proofs.lemmas.Option.{slice_get_within}
+use Rattle.frs_base.specs.Identifiers.{database_of}
+use Rattle.win_order.specs.declared.update.Update.{Update}
+use Rattle.vol_state.specs.declared.operation.LocalOp.{LocalOp}
+use Rattle.vol_state.specs.declared.operation.Refused.{Refused}
+use Rattle.world_model.specs.World.{Member, World}
+use Rattle.world_model.specs.Events.{Records, consumed_by, consumes}
+use Rattle.world_model.proofs.Changing.{at_same}
+use Rattle.folder_core.specs.declared.event.Event.{Event}
+use Rattle.folder_core.specs.declared.event.Event.TheVariants as event
+use Rattle.folder_core.specs.declared.reply.Reply.{Reply}
+use Rattle.folder_core.specs.Machine.{Machine}
+use Rattle.folder_core.specs.Replay.{Does, Seen}
+use Rattle.folder_core.specs.Sound.{IsSound}
+use Rattle.script_engine.specs.declared.consumed.Consumed.{Consumed}
+use Rattle.script_engine.specs.declared.consumed.Consumed.TheVariants as consumed
+use Rattle.script_engine.specs.declared.engine.Engine.{Engine}
+use Rattle.script_engine.specs.declared.refusal.Refusal.{Refusal}
+use Rattle.script_engine.specs.declared.refusal.Refusal.TheVariants.{VectorFull}
+use Rattle.script_engine.specs.Named.{AreNamed}
+use Rattle.script_engine.specs.Scene.{Scene, fresh_scene, in_world}
+use Rattle.script_engine.specs.Consuming.{widened}
+use Rattle.script_engine.specs.Widening.{Fits}
+use Rattle.script_engine.specs.Standing.{HaveRoom, MachineStands, MachinesStand, consumed_in, made_in}
+use Rattle.script_engine.specs.Engines.{Answered, ConsumedNext, Operated, Stands, consumed_by_all, count_of, machines_of, made_by_all}
+use Rattle.script_engine.specs.Replies.{consumed_of, usn_of}
+use Rattle.script_engine.proofs.Pairs.{get_map, get_read, in_sum, map_set, put_back, set_same, sum_less, sum_set}
+use Rattle.script_engine.proofs.Advancing.{Goes, machines_on}
+use Rattle.script_engine.proofs.Scenes.{fresh_scene_sound}
+use Rattle.script_engine.proofs.Operating.{Done, Stays, operates}
+use Rattle.script_engine.proofs.Consumption.{AreBounded, Consumes, Ends, IsTooFull, consumes_at, reply_of}
+
+-- ---- one machine more or less
+
+-- an engine stands for what its member went on to
+pub stands_on : (old new : Engine) (s : Scene) (at : ℕ) (m next : Machine) (after : World) → Stands old s → new.names ≡ old.names → slice_get (machines_of old) at ≡ Some m → machines_of new ≡ set (machines_of old) at next
+    → Goes s.world (database_of (at + 1)) m next after → Stands new (in_world s after)
+stands_on old new s at m next after h names found machines g = record {
+  names = ap (λ x. x.items) names ∙ h.names;
+  formed = subst (λ x. AreNamed x.items) (sym names) h.formed;
+  machines = subst (λ ms. MachinesStand ms (in_world s after)) (sym machines) (machines_on (machines_of old) s at m next after h.machines found g);
+}
+
+-- where the machine stays, it stands for the same
+pub stands_still : (old new : Engine) (s : Scene) (at : ℕ) (m next : Machine) → Stands old s → new.names ≡ old.names → slice_get (machines_of old) at ≡ Some m → machines_of new ≡ set (machines_of old) at next
+    → next ≡ m → Stands new s
+stands_still old new s at m next h names found machines same = record {
+  names = ap (λ x. x.items) names ∙ h.names;
+  formed = subst (λ x. AreNamed x.items) (sym names) h.formed;
+  machines = subst (λ ms. MachinesStand ms s) (sym (machines ∙ ap (set (machines_of old) at) same ∙ set_same (machines_of old) at m found)) h.machines;
+}
+
+-- how many journal records there are after one machine was set
+pub made_after : (old new : Engine) (at : ℕ) (m next : Machine) → slice_get (machines_of old) at ≡ Some m → machines_of new ≡ set (machines_of old) at next → made_by_all new + made_in m ≡ made_by_all old + made_in next
+made_after old new at m next found machines = ap (λ ms. sum_by made_in ms + made_in m) machines ∙ sum_set made_in (machines_of old) at m next found
+
+pub consumed_after : (old new : Engine) (at : ℕ) (m next : Machine) → slice_get (machines_of old) at ≡ Some m → machines_of new ≡ set (machines_of old) at next → consumed_by_all new + consumed_in m ≡ consumed_by_all old + consumed_in next
+consumed_after old new at m next found machines = ap (λ ms. sum_by consumed_in ms + consumed_in m) machines ∙ sum_set consumed_in (machines_of old) at m next found
+
+-- ---- bounds
+
+-- more isn't consumed than was made
+pub consumed_less : (machines : List Machine) (s : Scene) → MachinesStand machines s → sum_by consumed_in machines ≤ sum_by made_in machines
+consumed_less machines s h = sum_less consumed_in made_in machines (λ k m at. let most = (h.each k m at).order.consumed in omega (arith, most))
+
+-- so few updates were recorded
+pub few_recorded : (machines : List Machine) (s : Scene) → MachinesStand machines s → HaveRoom machines → length s.world.all < 2 ^ 60
+few_recorded machines s h room = let less = consumed_less machines s h in let counted = h.counted in omega (arith, less, counted, room)
+
+-- a member's numbers are small
+pub small_at : (machines : List Machine) (s : Scene) (k : ℕ) (m : Machine) → MachinesStand machines s → HaveRoom machines → slice_get machines k ≡ Some m → (s.world.at (database_of (k + 1))).consumed < 2 ^ 62
+small_at machines s k m h room at =
+    let stands = h.each k m at in
+    let now = stands.book.consumed in
+    let most = stands.order.consumed in
+    let part = in_sum made_in machines k m at in
+    omega (arith, now, most, part, room)
+
+-- ---- a local operation
+
+-- the reply says what came of it
+pub record Operates (at : ℕ) (operation : LocalOp) (reply : Reply) (old new : Engine) (s : Scene) : Type 0 where
+  pub outcome : Result ℕ Refused
+  pub reads : usn_of reply ≡ Some outcome
+  pub after : World
+  pub operated : Operated s.world (database_of (at + 1)) operation outcome after
+  pub stands : Stands new (in_world s after)
+  pub made : made_by_all new ≤ made_by_all old + 1
+
+pub operated_on : (at : ℕ) (operation : LocalOp) (reply : Reply) (old new : Engine) (s : Scene) → Stands old s → new.names ≡ old.names → Answered at (event.Local operation) reply old new → Operates at operation reply old new s
+operated_on at operation reply old new s h names a =
+    let d = database_of (at + 1) in
+    by (operates s.world d operation a.before reply a.after h.machines.scene.world (h.machines.each at a.before a.found) a.order a.answers)
+  where
+    by : Done s.world (database_of (at + 1)) operation a.before reply a.after ⊎ Stays s.world (database_of (at + 1)) operation a.before reply a.after → Operates at operation reply old new s
+    by (inl done) = record {
+      outcome = Ok (s.world.at (database_of (at + 1))).volume.next_usn;
+      reads = ap usn_of done.reply_is;
+      after = done.after;
+      operated = (done.cmd, done.resolves, done.step, refl);
+      stands = stands_on old new s at a.before a.after done.after h names a.found a.machines done.goes;
+      made = let sums = made_after old new at a.before a.after a.found a.machines in let one = done.usns in omega (arith, sums, one);
+    }
+    by (inr stays) = record {
+      outcome = Err stays.why;
+      reads = ap usn_of stays.reply_is;
+      after = s.world;
+      operated = (stays.resolves, refl);
+      stands = stands_still old new s at a.before a.after h names a.found a.machines stays.same;
+      made = let sums = made_after old new at a.before a.after a.found a.machines in let same = ap (λ (x : Machine). x.volume.next_usn) stays.same in omega (arith, sums, same);
+    }
+
+-- ---- a journal record consumed
+
+pub record ConsumesAt (at moment : ℕ) (reply : Reply) (old new : Engine) (s : Scene) : Type 0 where
+  pub outcome : Result (Option Consumed) Refusal
+  pub reads : consumed_of reply ≡ Some outcome
+  pub after : World
+  pub consumed : ConsumedNext s.world (database_of (at + 1)) moment outcome after
+  pub stands : Stands new (in_world s after)
+  pub made : made_by_all new ≡ made_by_all old
+  pub more : consumed_by_all new ≡ consumed_by_all old + count_of outcome
+
+pub consumed_on : (at moment : ℕ) (reply : Reply) (old new : Engine) (s : Scene) → moment < 2 ^ 61 → made_by_all old < 2 ^ 60 → Stands old s → new.names ≡ old.names → Answered at (event.Consume moment) reply old new → ConsumesAt at moment reply old new s
+consumed_on at moment reply old new s early room h names a =
+    by (consumes_at s.world (database_of (at + 1)) moment a.before reply a.after bounded h.machines.scene.world h.machines.ours (h.machines.each at a.before a.found) a.order a.answers)
+  where
+    bounded : AreBounded s.world (database_of (at + 1)) moment
+    bounded = (early, few_recorded (machines_of old) s h.machines room, small_at (machines_of old) s at a.before h.machines room a.found)
+
+    sums : made_by_all new + made_in a.before ≡ made_by_all old + made_in a.after
+    sums = made_after old new at a.before a.after a.found a.machines
+
+    counts : consumed_by_all new + consumed_in a.before ≡ consumed_by_all old + consumed_in a.after
+    counts = consumed_after old new at a.before a.after a.found a.machines
+
+    same_made : a.after ≡ a.before → made_by_all new ≡ made_by_all old
+    same_made e = let same = ap made_in e in omega (arith, sums, same)
+
+    same_consumed : a.after ≡ a.before → consumed_by_all new ≡ consumed_by_all old + 0
+    same_consumed e = let same = ap consumed_in e in omega (arith, counts, same)
+
+    now : a.before.book.consumed ≡ (s.world.at (database_of (at + 1))).consumed
+    now = (h.machines.each at a.before a.found).book.consumed
+
+    begun : 9 ≤ (s.world.at (database_of (at + 1))).consumed
+    begun = h.machines.scene.world.invariant.versions.begun (database_of (at + 1))
+
+    one_more : (made : Option Update) → Goes s.world (database_of (at + 1)) a.before a.after (consumes s.world (database_of (at + 1)) made) → consumed_by_all new ≡ consumed_by_all old + 1
+    one_more made g =
+        let later = g.stands.book.consumed in
+        let next : ((consumes s.world (database_of (at + 1)) made).at (database_of (at + 1))).consumed ≡ (s.world.at (database_of (at + 1))).consumed + 1 = ap (λ (x : Member). x.consumed) (at_same s.world.at (database_of (at + 1)) (consumed_by (database_of (at + 1)) made (s.world.at (database_of (at + 1))))) in
+        omega (arith, counts, now, begun, later, next)
+
+    some : (made : Option Update) → Records s.world (database_of (at + 1)) moment made → Fits (widened s.world (database_of (at + 1))) → reply ≡ reply_of (database_of (at + 1)) (s.world.at (database_of (at + 1))).consumed made
+        → Goes s.world (database_of (at + 1)) a.before a.after (consumes s.world (database_of (at + 1)) made) → a.after.volume.next_usn ≡ a.before.volume.next_usn → ConsumesAt at moment reply old new s
+    some None records fits is g same = record {
+      outcome = Ok (Some (consumed.Skipped (s.world.at (database_of (at + 1))).consumed));
+      reads = ap consumed_of is;
+      after = consumes s.world (database_of (at + 1)) None;
+      consumed = (refl, fits, records, refl);
+      stands = stands_on old new s at a.before a.after _ h names a.found a.machines g;
+      made = omega (arith, sums, same);
+      more = one_more None g;
+    }
+    some (Some u) records fits is g same = record {
+      outcome = Ok (Some (consumed.Made (s.world.at (database_of (at + 1))).consumed));
+      reads = ap consumed_of is;
+      after = consumes s.world (database_of (at + 1)) (Some u);
+      consumed = (refl, fits, u, records, refl);
+      stands = stands_on old new s at a.before a.after _ h names a.found a.machines g;
+      made = omega (arith, sums, same);
+      more = one_more (Some u) g;
+    }
+
+    by : Ends s.world (database_of (at + 1)) a.before reply a.after
+        ⊎ (Consumes s.world (database_of (at + 1)) moment a.before reply a.after ⊎ IsTooFull s.world (database_of (at + 1)) moment a.before reply a.after) → ConsumesAt at moment reply old new s
+    by (inl ends) = record {
+      outcome = Ok None;
+      reads = ap consumed_of ends.reply_is;
+      after = s.world;
+      consumed = (ends.end, refl);
+      stands = stands_still old new s at a.before a.after h names a.found a.machines ends.same;
+      made = same_made ends.same;
+      more = same_consumed ends.same;
+    }
+    by (inr (inl c)) = some c.made c.records c.fits c.reply_is c.goes c.usns
+    by (inr (inr full)) = record {
+      outcome = Err (VectorFull full.count);
+      reads = ap consumed_of full.reply_is;
+      after = s.world;
+      consumed = (full.count, (full.made, full.records, full.exceeds), refl, refl);
+      stands = stands_still old new s at a.before a.after h names a.found a.machines full.same;
+      made = same_made full.same;
+      more = same_consumed full.same;
+    }
+
+-- ---- an event
+
+-- what a folder answers, its engine answers
+pub answered_by : (caller at : ℕ) (e : Event) (reply : Reply) (old new : Engine) (before after : Seen) → at < length old.folders.items → before ≡ slice_index_or old.folders.items at before
+    → new.folders.items ≡ insert (remove old.folders.items at) at after → Does caller e reply before after → IsSound after.machine → Answered at e reply old new
+answered_by caller at e reply old new before after within is items (entry, history, enters) sound = record {
+  place = length before.history + 1;
+  before = before.machine;
+  after = after.machine;
+  found = get_map (λ (f : Seen). f.machine) old.folders.items at before (get_read old.folders.items at before within is);
+  answers = enters.answers;
+  order = sound.order;
+  machines = ap (map (λ (f : Seen). f.machine)) (items ∙ put_back old.folders.items at after within) ∙ map_set (λ (f : Seen). f.machine) old.folders.items at after;
+}
+
+-- what holds of each answer holds of the one that came
+pub ok_by : {T E : Type 0} (r : Result T E) (P Q : T → Type 0) → IfOk r P → ((x : T) → P x → Q x) → IfOk r Q
+ok_by (Ok x) P Q h f = f x h
+ok_by (Err e) P Q h f = tt
+
+-- ---- no members
+
+pub fresh_stands : (e : Engine) → e.names.items ≡ [] → e.folders.items ≡ [] → Stands e fresh_scene
+fresh_stands e names folders = record {
+  names = names;
+  formed = subst (AreNamed) (sym names) (λ k d within. absurd (omega (arith, within)));
+  machines = subst (λ ms. MachinesStand ms fresh_scene) (sym (ap (map (λ (f : Seen). f.machine)) folders)) (record {
+    many = refl;
+    each = λ k m at. absurd (cc);
+    ours = λ u here. absurd here;
+    counted = omega arith;
+    scene = fresh_scene_sound;
+  });
+}

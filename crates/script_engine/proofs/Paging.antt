@@ -1,0 +1,246 @@
+-- The pages and the files of a pull, one update after the other.
+use Rattle.std.proofs.Common.{◌≡◌, ◌≢◌, ◌<◌, ◌≤◌, ◌+◌, ◌++◌, ◌⊎◌, ℕ, zero, suc, Bool, true, false, not, cond, List, [], ◌∷◌, length, take, drop, get_or, refl, sym, ap, ◌∙◌, subst, arith, inl, inr, Option, Some, None, Result, Ok, Err, append_assoc, append-nil, is_lt, MatchOption}
+use Rattle.std.specs.Prelude.{filter}
+use Rattle.std.specs.Cmp.{IsStrictWeakOrder}
+use Rattle.std.proofs.lemmas.Bool.Decides.{nat_tests}
+use Rattle.frs_base.specs.Options.{In}
+use Rattle.frs_base.specs.Versions.{gvsn_lt, same_gvsn}
+use Rattle.frs_base.specs.declared.version.Gvsn.{Gvsn}
+use Rattle.version_vector.specs.Versions.{covers}
+use Rattle.version_vector.specs.declared.interval.Interval.{Interval}
+use Rattle.win_order.specs.Order.{Beats, key_lt, key_of}
+use Rattle.win_order.specs.declared.update.Update.{Update}
+use Rattle.record_db.specs.Lists.{IsRising, Lists}
+use Rattle.record_db.specs.Records.{Covered, IsHeld, IsHeldOrBeaten, IsRecord, Versions}
+use Rattle.record_db.proofs.Best.{covered_held}
+use Rattle.record_db.proofs.Keys.{key_cut, not_below, same_gvsn_is, same_gvsn_refl, uid_apart}
+use Rattle.record_db.proofs.Lists.{above}
+use Rattle.record_db.proofs.Sets.{in_after, in_append, in_before}
+use Rattle.name_rules.specs.Tree.{is_file}
+use Rattle.world_model.specs.World.{World, IsRecordOf}
+use Rattle.world_model.specs.Events.{IsAllHeld, IsOfFile, IsOfPage, Step, Adopt, SendUpdate, SendVector, sends_vector}
+use Rattle.world_model.specs.Invariant.{SentIsKnown, VersionsAreMade}
+use Rattle.world_model.specs.Rounds.{IsWanted}
+use Rattle.world_model.specs.Runs.{CoversAlike, Grows}
+use Rattle.world_model.proofs.Growth.{grows_refl, grows_trans, stays, step_grows}
+use Rattle.world_model.proofs.Puts.{no_smaller, record_stayed, record_stays}
+use Rattle.world_model.proofs.Rounds.{adopted_is_held, held_stays, not_better}
+use Rattle.world_model.proofs.Versions.{step_made, step_sent}
+use Rattle.script_engine.specs.declared.refusal.Refusal.{Refusal}
+use Rattle.script_engine.specs.declared.refusal.Refusal.TheVariants.{NotYet, VectorFull}
+use Rattle.script_engine.specs.Pulling.{IsAsked, IsByVersion, IsLastPending, IsTooMuch, Takes, TakesFiles, TakesPages}
+use Rattle.script_engine.specs.Pulls.{AreCovered, ArePages, AreTreated, CanTake, uncovered, version_lt}
+use Rattle.script_engine.proofs.Members.{contains_in, in_at, in_contains}
+
+-- ---- lists
+
+drop_next : {X : Type 0} (xs : List X) (i : ℕ) (x : X) → i < length xs → x ≡ get_or xs i x → drop i xs ≡ x ∷ drop (suc i) xs
+drop_next [] i x l e = absurd (omega (arith, l))
+drop_next (y ∷ ys) zero x l e = ap (λ z. z ∷ ys) (sym e)
+drop_next (y ∷ ys) (suc i) x l e = drop_next ys i x (omega (arith, l)) e
+
+take_next : {X : Type 0} (xs : List X) (i : ℕ) (x : X) → i < length xs → x ≡ get_or xs i x → take (suc i) xs ≡ take i xs ++ x ∷ []
+take_next [] i x l e = absurd (omega (arith, l))
+take_next (y ∷ ys) zero x l e = ap (λ z. z ∷ []) (sym e)
+take_next (y ∷ ys) (suc i) x l e = ap (λ zs. y ∷ zs) (take_next ys i x (omega (arith, l)) e)
+
+-- what is left begins with the item at this place
+pub drop_at : {X : Type 0} (xs : List X) (i : ℕ) (x : X) → i < length xs → x ≡ get_or xs i x → drop i xs ≡ x ∷ drop (i + 1) xs
+drop_at xs i x l e = let next : suc i ≡ i + 1 = omega arith in drop_next xs i x l e ∙ ap (λ n. x ∷ drop n xs) next
+
+pub take_at : {X : Type 0} (xs : List X) (i : ℕ) (x : X) → i < length xs → x ≡ get_or xs i x → take (i + 1) xs ≡ take i xs ++ x ∷ []
+take_at xs i x l e = let next : i + 1 ≡ suc i = omega arith in ap (λ n. take n xs) next ∙ take_next xs i x l e
+
+pub in_place : {X : Type 0} (xs : List X) (i : ℕ) (x : X) → i < length xs → x ≡ get_or xs i x → In x xs
+in_place [] i x l e = absurd (omega (arith, l))
+in_place (y ∷ ys) zero x l e = inl e
+in_place (y ∷ ys) (suc i) x l e = inr (in_place ys i x (omega (arith, l)) e)
+
+pub drop_end : {X : Type 0} (xs : List X) (i : ℕ) → length xs ≤ i → drop i xs ≡ []
+drop_end [] zero l = refl
+drop_end [] (suc i) l = refl
+drop_end (y ∷ ys) zero l = absurd (omega (arith, l))
+drop_end (y ∷ ys) (suc i) l = drop_end ys i (omega (arith, l))
+
+pub take_end : {X : Type 0} (xs : List X) (i : ℕ) → length xs ≤ i → take i xs ≡ xs
+take_end [] zero l = refl
+take_end [] (suc i) l = refl
+take_end (y ∷ ys) zero l = absurd (omega (arith, l))
+take_end (y ∷ ys) (suc i) l = ap (λ zs. y ∷ zs) (take_end ys i (omega (arith, l)))
+
+-- ---- pages
+
+-- the first i updates were treated
+pub record PagesSo (start : World) (p s : ℕ) (page : List Update) (i : ℕ) (w : World) (listed : List Update) (taken : ℕ) : Type 0 where
+  pub goes_on : (more : List Update) (others : ℕ) (why : Option Refusal) (new : World) → TakesPages w p s (drop i page) more others why new → TakesPages start p s page (listed ++ more) (taken + others) why new
+  pub treated : AreTreated w p (take i page) listed
+  pub grows : Grows start w
+
+pub pages_begin : (w : World) (p s : ℕ) (page : List Update) → PagesSo w p s page 0 w [] 0
+pages_begin w p s page = record {
+  goes_on = λ more others why new t. subst (λ n. TakesPages w p s page more n why new) (omega arith) t;
+  treated = record { each = λ u here. absurd here; from = λ u here. absurd here };
+  grows = grows_refl w;
+}
+
+-- one update more is listed, or held or beaten
+treated_more : (w next : World) (p : ℕ) (page listed more : List Update) (i : ℕ) (u : Update) → i < length page → u ≡ get_or page i u → Grows w next → AreTreated w p (take i page) listed
+    → ((v : Update) → In v listed → In v more) → ((v : Update) → In v more → In v listed ⊎ (v ≡ u)) → In u more ⊎ IsHeldOrBeaten (IsRecordOf next p) u → AreTreated next p (take (i + 1) page) more
+treated_more w next p page listed more i u within is grows t keeps only mine = record {
+  each = λ v here. elim (in_append v (take i page) (u ∷ []) (subst (In v) (take_at page i u within is) here)) [
+    | inl old ↦ elim (t.each v old) [ inl a ↦ inl (keeps v a) | inr b ↦ inr (held_stays w next p v grows b) ]
+    | inr (inl same) ↦ subst (λ x. In x more ⊎ IsHeldOrBeaten (IsRecordOf next p) x) (sym same) mine
+    | inr (inr none) ↦ absurd none
+  ];
+  from = λ v here. subst (In v) (sym (take_at page i u within is)) (elim (only v here) [
+    | inl old ↦ in_before v (take i page) (u ∷ []) (t.from v old)
+    | inr same ↦ in_after v (take i page) (u ∷ []) (inl same)
+  ]);
+}
+
+-- an update that isn't wanted is passed
+pub pages_pass : (start : World) (p s : ℕ) (page : List Update) (i : ℕ) (w : World) (listed : List Update) (taken : ℕ) (u : Update) → PagesSo start p s page i w listed taken → i < length page → u ≡ get_or page i u
+    → (IsWanted w p u → ⊥) → PagesSo start p s page (i + 1) w listed taken
+pages_pass start p s page i w listed taken u so within is never = record {
+  goes_on = λ more others why new t. so.goes_on more others why new (subst (λ l. TakesPages w p s l more others why new) (sym (drop_at page i u within is)) (inl (never, t)));
+  treated = treated_more w w p page listed listed i u within is (grows_refl w) so.treated (λ v h. h) (λ v h. inl h) (inr (not_better w p u never));
+  grows = so.grows;
+}
+
+-- a present file is listed
+pub pages_list : (start : World) (p s : ℕ) (page : List Update) (i : ℕ) (w : World) (listed : List Update) (taken : ℕ) (u : Update) → PagesSo start p s page i w listed taken → i < length page → u ≡ get_or page i u
+    → IsWanted w p u → is_file u ≡ true → PagesSo start p s page (i + 1) w (listed ++ u ∷ []) taken
+pages_list start p s page i w listed taken u so within is wanted file = record {
+  goes_on = λ more others why new t. subst (λ l. TakesPages start p s page l (taken + others) why new) (sym (append_assoc listed (u ∷ []) more))
+      (so.goes_on (u ∷ more) others why new (subst (λ l. TakesPages w p s l (u ∷ more) others why new) (sym (drop_at page i u within is)) (inr (inl (wanted, file, more, refl, t)))));
+  treated = treated_more w w p page listed (listed ++ u ∷ []) i u within is (grows_refl w) so.treated (λ v h. in_before v listed (u ∷ []) h)
+      (λ v h. elim (in_append v listed (u ∷ []) h) [ inl old ↦ inl old | inr (inl same) ↦ inr same | inr (inr none) ↦ absurd none ]) (inl (in_after u listed (u ∷ []) (inl refl)));
+  grows = so.grows;
+}
+
+takes_grow : (w : World) (p s : ℕ) (u : Update) (new : World) → Takes w p s u new → Grows w new
+takes_grow w p s u new (fits, mid, send, adopt) = grows_trans w mid new (step_grows w s (SendUpdate u) mid send) (step_grows mid p (Adopt u) new adopt)
+
+-- another is taken
+pub pages_take : (start : World) (p s : ℕ) (page : List Update) (i : ℕ) (w : World) (listed : List Update) (taken : ℕ) (u : Update) (next : World) → VersionsAreMade w → SentIsKnown w → PagesSo start p s page i w listed taken → i < length page
+    → u ≡ get_or page i u → is_file u ≡ false → Takes w p s u next → PagesSo start p s page (i + 1) next listed (taken + 1)
+pages_take start p s page i w listed taken u next made sent so within is file takes = record {
+  goes_on = λ more others why new t. subst (λ n. TakesPages start p s page (listed ++ more) n why new) (omega arith)
+      (so.goes_on more (others + 1) why new (subst (λ l. TakesPages w p s l more (others + 1) why new) (sym (drop_at page i u within is)) (inr (inr (inl (file, next, others, takes, t, refl))))));
+  treated = treated_more w next p page listed listed i u within is (takes_grow w p s u next takes) so.treated (λ v h. h) (λ v h. inl h) (inr (
+      let (fits, mid, send, adopt) = takes in
+      adopted_is_held mid p u next (step_made w s (SendUpdate u) mid made sent send) (step_sent w s (SendUpdate u) mid sent send) adopt));
+  grows = grows_trans start w next so.grows (takes_grow w p s u next takes);
+}
+
+-- one is refused
+pub pages_cut : (start : World) (p s : ℕ) (page : List Update) (i : ℕ) (w : World) (listed : List Update) (taken : ℕ) (u : Update) (count : ℕ) → PagesSo start p s page i w listed taken → i < length page → u ≡ get_or page i u
+    → is_file u ≡ false → IsTooMuch w p u count → TakesPages start p s page (listed ++ []) (taken + 0) (Some (VectorFull count)) w
+pages_cut start p s page i w listed taken u count so within is file much =
+    so.goes_on [] 0 (Some (VectorFull count)) w (subst (λ l. TakesPages w p s l [] 0 (Some (VectorFull count)) w) (sym (drop_at page i u within is)) (inr (inr (inr (file, count, much, refl, refl, refl, refl)))))
+
+-- all are treated
+pub pages_end : (start : World) (p s : ℕ) (page : List Update) (i : ℕ) (w : World) (listed : List Update) (taken : ℕ) → PagesSo start p s page i w listed taken → length page ≤ i
+    → TakesPages start p s page listed taken None w × AreTreated w p page listed × Grows start w
+pages_end start p s page i w listed taken so past = (
+  subst (λ n. TakesPages start p s page listed n None w) (omega arith)
+      (subst (λ l. TakesPages start p s page l (taken + 0) None w) (append-nil listed) (so.goes_on [] 0 None w (subst (λ l. TakesPages w p s l [] 0 None w) (sym (drop_end page i past)) (refl, refl, refl, refl)))),
+  subst (λ l. AreTreated w p l listed) (take_end page i past) so.treated,
+  so.grows,
+)
+
+-- an update of the pages may be sent from then on
+pub page_can : (start w : World) (p s : ℕ) (page : List Update) (u : Update) → VersionsAreMade start → ArePages start s page → Grows start w → In u page → IsWanted w p u → CanTake w p s u
+page_can start w p s page u made pages grows here wanted =
+    let alike = stays start w (start.at s).known (made.known s) grows in
+    record { wanted = wanted; sent = inl ((start.at s).known, grows.vectors _ pages.sent, record_stays start w (start.at s).known alike u (pages.each u here)) }
+
+-- ---- files
+
+-- the first i files were treated
+pub record FilesSo (start : World) (p s : ℕ) (files : List Update) (i : ℕ) (w : World) (taken : ℕ) : Type 0 where
+  pub goes_on : (others : ℕ) (why : Option Refusal) (new : World) → TakesFiles w p s (drop i files) others why new → TakesFiles start p s files (taken + others) why new
+  pub held : (u : Update) → In u (take i files) → IsHeldOrBeaten (IsRecordOf w p) u
+  pub grows : Grows start w
+
+pub files_begin : (w : World) (p s : ℕ) (files : List Update) → FilesSo w p s files 0 w 0
+files_begin w p s files = record {
+  goes_on = λ others why new t. subst (λ n. TakesFiles w p s files n why new) (omega arith) t;
+  held = λ u here. absurd here;
+  grows = grows_refl w;
+}
+
+held_more : (w : World) (p : ℕ) (files : List Update) (i : ℕ) (u : Update) → i < length files → u ≡ get_or files i u → ((v : Update) → In v (take i files) → IsHeldOrBeaten (IsRecordOf w p) v) → IsHeldOrBeaten (IsRecordOf w p) u
+    → (v : Update) → In v (take (i + 1) files) → IsHeldOrBeaten (IsRecordOf w p) v
+held_more w p files i u within is held mine v here = elim (in_append v (take i files) (u ∷ []) (subst (In v) (take_at files i u within is) here)) [
+  | inl old ↦ held v old
+  | inr (inl same) ↦ subst (IsHeldOrBeaten (IsRecordOf w p)) (sym same) mine
+  | inr (inr none) ↦ absurd none
+]
+
+pub files_pass : (start : World) (p s : ℕ) (files : List Update) (i : ℕ) (w : World) (taken : ℕ) (u : Update) → FilesSo start p s files i w taken → i < length files → u ≡ get_or files i u
+    → (IsWanted w p u → ⊥) → FilesSo start p s files (i + 1) w taken
+files_pass start p s files i w taken u so within is never = record {
+  goes_on = λ others why new t. so.goes_on others why new (subst (λ l. TakesFiles w p s l others why new) (sym (drop_at files i u within is)) (inl (never, t)));
+  held = held_more w p files i u within is so.held (not_better w p u never);
+  grows = so.grows;
+}
+
+-- what the server has of the file in place of an update that it covers is no lower
+first_held : (w : World) (p s : ℕ) (u v : Update) (next : World) → VersionsAreMade w → SentIsKnown w → Covered w.all (w.at s).known u → v.uid ≡ u.uid → IsRecordOf w s v → Takes w p s v next → IsHeldOrBeaten (IsRecordOf next p) u
+first_held w p s u v next made sent covered file wins (fits, mid, send, adopt) =
+    let below = not_below v u file (λ b. wins.unbeaten u covered b) in
+    let (q, is, same, low) = adopted_is_held mid p v next (step_made w s (SendUpdate v) mid made sent send) (step_sent w s (SendUpdate v) mid sent send) adopt in
+    (q, is, same ∙ file, no_smaller q v u low below)
+
+pub files_take : (start : World) (p s : ℕ) (files : List Update) (i : ℕ) (w : World) (taken : ℕ) (u v : Update) (next : World) → VersionsAreMade w → SentIsKnown w → FilesSo start p s files i w taken → i < length files → u ≡ get_or files i u
+    → Covered w.all (w.at s).known u → IsWanted w p u → v.uid ≡ u.uid → IsOfFile w s v → Takes w p s v next → FilesSo start p s files (i + 1) next (taken + 1)
+files_take start p s files i w taken u v next made sent so within is covered wanted file of_file takes = record {
+  goes_on = λ others why new t. subst (λ n. TakesFiles start p s files n why new) (omega arith)
+      (so.goes_on (others + 1) why new (subst (λ l. TakesFiles w p s l (others + 1) why new) (sym (drop_at files i u within is)) (inr (inr (inl (v, next, others, wanted, file, of_file, takes, t, refl))))));
+  held = held_more next p files i u within is (λ x here. held_stays w next p x (takes_grow w p s v next takes) (so.held x here)) (first_held w p s u v next made sent covered file of_file.0 takes);
+  grows = grows_trans start w next so.grows (takes_grow w p s v next takes);
+}
+
+-- a file is pending at the server
+pub files_wait : (start : World) (p s : ℕ) (files : List Update) (i : ℕ) (w : World) (taken : ℕ) (u : Update) (usn : ℕ) → FilesSo start p s files i w taken → i < length files → u ≡ get_or files i u
+    → IsWanted w p u → IsLastPending w s u.uid usn → TakesFiles start p s files (taken + 0) (Some (NotYet usn)) w
+files_wait start p s files i w taken u usn so within is wanted last =
+    so.goes_on 0 (Some (NotYet usn)) w (subst (λ l. TakesFiles w p s l 0 (Some (NotYet usn)) w) (sym (drop_at files i u within is)) (inr (inl (wanted, usn, last, refl, refl, refl))))
+
+-- its version would make too many intervals
+pub files_cut : (start : World) (p s : ℕ) (files : List Update) (i : ℕ) (w : World) (taken : ℕ) (u v : Update) (count : ℕ) → FilesSo start p s files i w taken → i < length files → u ≡ get_or files i u
+    → IsWanted w p u → v.uid ≡ u.uid → IsOfFile w s v → IsTooMuch w p v count → TakesFiles start p s files (taken + 0) (Some (VectorFull count)) w
+files_cut start p s files i w taken u v count so within is wanted file of_file much =
+    so.goes_on 0 (Some (VectorFull count)) w (subst (λ l. TakesFiles w p s l 0 (Some (VectorFull count)) w) (sym (drop_at files i u within is)) (inr (inr (inr (v, count, wanted, file, of_file, much, refl, refl, refl)))))
+
+pub files_end : (start : World) (p s : ℕ) (files : List Update) (i : ℕ) (w : World) (taken : ℕ) → FilesSo start p s files i w taken → length files ≤ i
+    → TakesFiles start p s files taken None w × ((u : Update) → In u files → IsHeldOrBeaten (IsRecordOf w p) u) × Grows start w
+files_end start p s files i w taken so past = (
+  subst (λ n. TakesFiles start p s files n None w) (omega arith) (so.goes_on 0 None w (subst (λ l. TakesFiles w p s l 0 None w) (sym (drop_end files i past)) (refl, refl, refl))),
+  (λ u here. so.held u (subst (In u) (sym (take_end files i past)) here)),
+  so.grows,
+)
+
+-- what it covers the server covers from then on
+pub files_covered : (start w : World) (s : ℕ) (files : List Update) (u : Update) → AreCovered start s files → Grows start w → In u files → Covered w.all (w.at s).known u
+files_covered start w s files u covered grows here = let (there, known) = covered u here in (grows.all u there, grows.known s u.gvsn known)
+
+-- what the server has of a wanted file in place of an update that it covers may be taken
+pub file_can : (w : World) (p s : ℕ) (u v : Update) → Covered w.all (w.at s).known u → IsWanted w p u → v.uid ≡ u.uid → IsOfFile w s v → CanTake w p s v
+file_can w p s u v covered (held, is_held, better) file of_file = record {
+  wanted = (held, subst (λ uid. IsHeld (Covered w.all (w.at p).known) uid held) (sym file) is_held, by held better);
+  sent = inr of_file;
+}
+  where
+    by : (held : Option Update) → MatchOption held (Unit {0}) (λ r. Beats u r) → MatchOption held (Unit {0}) (λ r. Beats v r)
+    by None b = tt
+    by (Some r) b = record { file = file ∙ b.file; greater = key_cut (key_of r) (key_of v) (key_of u) b.greater (not_below v u file (λ x. of_file.0.unbeaten u covered x)) }
+
+-- ---- the page
+
+pub versions_rank : IsStrictWeakOrder version_lt
+versions_rank = record {
+  one_way = λ x y e. grind (arith, nat_tests);
+  chain = λ x y z e f. grind (arith, nat_tests);
+}

@@ -1,0 +1,107 @@
+-- A whole pull of its parts.
+use Rattle.std.proofs.Common.{◌≡◌, ◌+◌, ◌⊎◌, ℕ, Bool, true, false, List, [], ◌∷◌, refl, sym, ap, ◌∙◌, subst, inl, inr, Option, Some, None, Result, Ok, Err}
+use Rattle.frs_base.specs.Options.{In}
+use Rattle.version_vector.specs.declared.interval.Interval.{Interval}
+use Rattle.win_order.specs.declared.update.Update.{Update}
+use Rattle.record_db.specs.Records.{Covered, IsHeldOrBeaten, IsRecord, Versions}
+use Rattle.record_db.proofs.Best.{covered_held}
+use Rattle.world_model.specs.World.{World, IsRecordOf}
+use Rattle.world_model.specs.Events.{IsAllHeld, sends_vector}
+use Rattle.world_model.specs.Invariant.{VersionsAreMade}
+use Rattle.world_model.specs.Runs.{Grows}
+use Rattle.world_model.proofs.Growth.{grows_trans, stays}
+use Rattle.world_model.proofs.Puts.{record_stayed}
+use Rattle.world_model.proofs.Rounds.{held_stays}
+use Rattle.script_engine.specs.declared.engine.pulling.Paged.{Paged}
+use Rattle.script_engine.specs.declared.refusal.Refusal.{Refusal}
+use Rattle.script_engine.specs.declared.refusal.Refusal.TheVariants.{NotYet, VectorFull}
+use Rattle.script_engine.specs.Named.{HasName}
+use Rattle.script_engine.specs.Pulling.{Ends, IsAsked, Pulls, TakesFiles, TakesPages}
+use Rattle.script_engine.specs.Pulls.{AreCovered, ArePages, AreTreated, Ended, FilesTaken, MayFinish, PagesTaken, PullEnds}
+use Rattle.script_engine.specs.Widening.{IsVectorOf}
+
+-- what is asked for are pages of the vector that was sent
+pub pages_are : (w : World) (p e : ℕ) (page : List Update) → IsAsked w p e page → ArePages (sends_vector w e) e page
+pages_are w p e page asked = record { sent = inl refl; each = λ u here. (asked.each u here).0 }
+
+-- the listed files are covered by the server
+pub listed_covered : (w : World) (p e : ℕ) (page listed : List Update) (paged : World) → IsAsked w p e page → AreTreated paged p page listed → Grows (sends_vector w e) paged → AreCovered paged e listed
+listed_covered w p e page listed paged asked treated grows u here =
+    let (there, known) = (asked.each u (treated.from u here)).0.among in (grows.all u there, grows.known e u.gvsn known)
+
+-- all that the vector covers is held or beaten in the end
+pub may_finish : (w : World) (p e : ℕ) (vector : List Interval) (page listed : List Update) (paged filed : World) → VersionsAreMade (sends_vector w e) → IsVectorOf (w.at e).known vector → IsAsked w p e page → AreTreated paged p page listed
+    → Grows (sends_vector w e) paged → ((u : Update) → In u listed → IsHeldOrBeaten (IsRecordOf filed p) u) → Grows paged filed → MayFinish filed p (w.at e).known vector page
+may_finish w p e vector page listed paged filed made is asked treated first held second = record {
+  vector = is;
+  was_sent = (e, grows.vectors _ (inl refl));
+  held = λ u wins. by u (record_stayed (sends_vector w e) filed (w.at e).known (stays (sends_vector w e) filed (w.at e).known (made.known e) grows) u wins) ((w.at p).known u.gvsn) refl;
+  pages = page_held;
+}
+  where
+    grows : Grows (sends_vector w e) filed
+    grows = grows_trans (sends_vector w e) paged filed first second
+
+    page_held : (u : Update) → In u page → IsHeldOrBeaten (IsRecordOf filed p) u
+    page_held u here = elim (treated.each u here) [ inl there ↦ held u there | inr now ↦ held_stays paged filed p u second now ]
+
+    by : (u : Update) → IsRecord w.all (w.at e).known u → (b : Bool) → (w.at p).known u.gvsn ≡ b → IsHeldOrBeaten (IsRecordOf filed p) u
+    by u wins true known = held_stays (sends_vector w e) filed p u grows (covered_held w.all (w.at p).known u (wins.among.0, known))
+    by u wins false free = page_held u (asked.whole u wins free)
+
+-- ---- the outcomes
+
+pub cut_in_pages : (w : World) (p e : ℕ) (page : List Update) (why : Refusal) (new : World) → IsAsked w p e page → PagesTaken (sends_vector w e) p e page (Err why) new → PullEnds w p e (Err why) new
+cut_in_pages w p e page why new asked (listed, taken, pages) = (taken + 0, (sends_vector w e, page, listed, taken, 0, Some why, new, refl, asked, pages, (refl, refl), refl))
+
+pub cut_in_files : (w : World) (p e : ℕ) (page : List Update) (paged : Paged) (mid : World) (why : Refusal) (new : World) → IsAsked w p e page → PagesTaken (sends_vector w e) p e page (Ok paged) mid
+    → FilesTaken mid p e paged.listed.items (Err why) new → PullEnds w p e (Err why) new
+cut_in_files w p e page paged mid why new asked (pages, treated, grows) (fetched, files) =
+    (paged.taken + fetched, (sends_vector w e, page, paged.listed.items, paged.taken, fetched, None, mid, refl, asked, pages, (Some why, new, files, (refl, refl)), refl))
+
+pub all_taken : (w : World) (p e : ℕ) (page : List Update) (paged : Paged) (mid : World) (fetched : ℕ) (filed : World) (new : World) → IsAsked w p e page → PagesTaken (sends_vector w e) p e page (Ok paged) mid
+    → FilesTaken mid p e paged.listed.items (Ok fetched) filed → Ends filed p (w.at e).known None new → PullEnds w p e (Ok (paged.taken + fetched)) new
+all_taken w p e page paged mid fetched filed new asked (pages, treated, grows) (files, held, more) ends =
+    (sends_vector w e, page, paged.listed.items, paged.taken, fetched, None, mid, refl, asked, pages, (None, filed, files, ends), refl)
+
+pub cut_at_end : (w : World) (p e : ℕ) (page : List Update) (paged : Paged) (mid : World) (fetched : ℕ) (filed : World) (why : Refusal) (new : World) → IsAsked w p e page → PagesTaken (sends_vector w e) p e page (Ok paged) mid
+    → FilesTaken mid p e paged.listed.items (Ok fetched) filed → Ends filed p (w.at e).known (Some why) new → PullEnds w p e (Err why) new
+cut_at_end w p e page paged mid fetched filed why new asked (pages, treated, grows) (files, held, more) ends =
+    (paged.taken + fetched, (sends_vector w e, page, paged.listed.items, paged.taken, fetched, None, mid, refl, asked, pages, (None, filed, files, ends), refl))
+
+-- ---- a refusal of a pull has no name
+
+abbrev Nameless : Option Refusal → Type 0
+Nameless why = (r : Refusal) → why ≡ Some r → HasName r
+
+full : (count : ℕ) (why : Option Refusal) → why ≡ Some (VectorFull count) → Nameless why
+full count why e r f = let same : r ≡ VectorFull count = cc in subst HasName (sym same) tt
+
+waits : (usn : ℕ) (why : Option Refusal) → why ≡ Some (NotYet usn) → Nameless why
+waits usn why e r f = let same : r ≡ NotYet usn = cc in subst HasName (sym same) tt
+
+none_named : (why : Option Refusal) → why ≡ None → Nameless why
+none_named why e r f = absurd (cc)
+
+pages_nameless : (w : World) (p e : ℕ) (us listed : List Update) (taken : ℕ) (why : Option Refusal) (new : World) → TakesPages w p e us listed taken why new → Nameless why
+pages_nameless w p e [] listed taken why new (a, b, none, c) = none_named why none
+pages_nameless w p e (u ∷ us) listed taken why new (inl (n, t)) = pages_nameless w p e us listed taken why new t
+pages_nameless w p e (u ∷ us) listed taken why new (inr (inl (b, f, more, is, t))) = pages_nameless w p e us more taken why new t
+pages_nameless w p e (u ∷ us) listed taken why new (inr (inr (inl (f, mid, others, takes, t, is)))) = pages_nameless mid p e us listed others why new t
+pages_nameless w p e (u ∷ us) listed taken why new (inr (inr (inr (f, count, much, a, b, c, is)))) = full count why is
+
+files_nameless : (w : World) (p e : ℕ) (us : List Update) (taken : ℕ) (why : Option Refusal) (new : World) → TakesFiles w p e us taken why new → Nameless why
+files_nameless w p e [] taken why new (a, none, b) = none_named why none
+files_nameless w p e (u ∷ us) taken why new (inl (n, t)) = files_nameless w p e us taken why new t
+files_nameless w p e (u ∷ us) taken why new (inr (inl (b, usn, last, a, is, c))) = waits usn why is
+files_nameless w p e (u ∷ us) taken why new (inr (inr (inl (v, mid, others, b, s, o, takes, t, is)))) = files_nameless mid p e us others why new t
+files_nameless w p e (u ∷ us) taken why new (inr (inr (inr (v, count, b, s, o, much, a, c, is)))) = full count why is
+
+ends_nameless : (w : World) (p : ℕ) (s : Versions) (why : Option Refusal) (new : World) → Ends w p s why new → Nameless why
+ends_nameless w p s why new (inl (a, b, none)) = none_named why none
+ends_nameless w p s why new (inr (count, a, is, b)) = full count why is
+
+pub pull_nameless : (w : World) (p e taken : ℕ) (why : Refusal) (new : World) → Pulls w p e taken (Some why) new → HasName why
+pull_nameless w p e taken why new (sent, page, listed, at_once, fetched, Some first, mid, step, asked, pages, (is, same), count) = pages_nameless sent p e page listed at_once (Some first) mid pages why (sym is)
+pull_nameless w p e taken why new (sent, page, listed, at_once, fetched, None, mid, step, asked, pages, (Some second, last, files, (is, same)), count) = files_nameless mid p e listed fetched (Some second) last files why (sym is)
+pull_nameless w p e taken why new (sent, page, listed, at_once, fetched, None, mid, step, asked, pages, (None, last, files, ends), count) = ends_nameless last p (w.at e).known (Some why) new ends why refl

@@ -1,0 +1,17 @@
+use Rattle.std.proofs.Common.{◌≡◌, ◌+◌, subst}
+use Rattle.frs_base.specs.Identifiers.{database_of}
+use Rattle.script_engine.specs.Pulls.{IsPinned}
+use Rattle.script_engine.proofs.Puller.{asked_on}
+use Rattle.script_engine.proofs.engine.Engine.ask.Goals as goal
+
+pub returns-clause-ok : goal.returns-clause-ok
+returns-clause-ok c = λ s stands.
+    let on = asked_on c.args.at c.in_ok-reply.reply c.args.self.now c.event.new.self s stands c.event.ensures.names c.in_ok-reply.ensures.ok in
+    let reads = on.reads in let said = c.pinned_of.ensures in let some = c.in-Some.is in
+    let same : on.pinned ≡ c.in-Some.pinned = cc in
+    (subst (IsPinned s.world (database_of (c.args.at + 1))) same on.is, on.stands)
+
+pub returns-clause-made : goal.returns-clause-made
+returns-clause-made c =
+    let (s, stands) = c.requires.scene in
+    (asked_on c.args.at c.in_ok-reply.reply c.args.self.now c.event.new.self s stands c.event.ensures.names c.in_ok-reply.ensures.ok).made

@@ -1,0 +1,31 @@
+use Rattle.std.proofs.Common.{◌≡◌, ◌+◌, subst}
+use Rattle.frs_base.specs.Identifiers.{database_of}
+use Rattle.script_engine.specs.Engines.{ConsumedNext, consumed_by_all, count_of}
+use Rattle.script_engine.proofs.Events.{consumed_on}
+use Rattle.script_engine.proofs.engine.Engine.consume.Goals as goal
+
+pub unreachable-requires : goal.unreachable-requires
+unreachable-requires c =
+    let (s, stands) = c.requires.scene in
+    let on = consumed_on c.args.at c.args.moment c.in_ok-reply.reply c.args.self.now c.event.new.self s c.requires.early c.requires.room stands c.event.ensures.names c.in_ok-reply.ensures.ok in
+    let reads = on.reads in let said = c.consumed_of.ensures in let none = c.in_default.is in cc
+
+pub returns-clause-ok : goal.returns-clause-ok
+returns-clause-ok c = λ s stands.
+    let on = consumed_on c.args.at c.args.moment c.in_ok-reply.reply c.args.self.now c.event.new.self s c.requires.early c.requires.room stands c.event.ensures.names c.in_ok-reply.ensures.ok in
+    let reads = on.reads in let said = c.consumed_of.ensures in let some = c.in-Some.is in
+    let same : on.outcome ≡ c.in-Some.outcome = cc in
+    (on.after, subst (λ o. ConsumedNext s.world (database_of (c.args.at + 1)) c.args.moment o on.after) same on.consumed, on.stands)
+
+pub returns-clause-made : goal.returns-clause-made
+returns-clause-made c =
+    let (s, stands) = c.requires.scene in
+    (consumed_on c.args.at c.args.moment c.in_ok-reply.reply c.args.self.now c.event.new.self s c.requires.early c.requires.room stands c.event.ensures.names c.in_ok-reply.ensures.ok).made
+
+pub returns-clause-more : goal.returns-clause-more
+returns-clause-more c =
+    let (s, stands) = c.requires.scene in
+    let on = consumed_on c.args.at c.args.moment c.in_ok-reply.reply c.args.self.now c.event.new.self s c.requires.early c.requires.room stands c.event.ensures.names c.in_ok-reply.ensures.ok in
+    let reads = on.reads in let said = c.consumed_of.ensures in let some = c.in-Some.is in
+    let same : on.outcome ≡ c.in-Some.outcome = cc in
+    subst (λ o. consumed_by_all c.event.new.self ≡ consumed_by_all c.args.self.now + count_of o) same on.more

@@ -1,0 +1,23 @@
+use Rattle.std.proofs.Common.{◌≡◌, ◌+◌, subst}
+use Rattle.frs_base.specs.Identifiers.{database_of}
+use Rattle.script_engine.specs.Pulls.{Ended}
+use Rattle.script_engine.proofs.Puller.{finished_on}
+use Rattle.script_engine.proofs.engine.Engine.finish.Goals as goal
+
+pub unreachable-requires : goal.unreachable-requires
+unreachable-requires c =
+    let (s, versions, stands, may) = c.requires.may in
+    let on = finished_on c.args.at c.args.from c.args.entry versions c.args.sent c.args.seen c.in_ok-reply.reply c.args.self.now c.event.new.self s stands c.event.ensures.names c.in_ok-reply.ensures.ok may in
+    let reads = on.reads in let said = c.taken_of.ensures in let none = c.in_default.is in cc
+
+pub returns-clause-ok : goal.returns-clause-ok
+returns-clause-ok c = λ s versions stands may.
+    let on = finished_on c.args.at c.args.from c.args.entry versions c.args.sent c.args.seen c.in_ok-reply.reply c.args.self.now c.event.new.self s stands c.event.ensures.names c.in_ok-reply.ensures.ok may in
+    let reads = on.reads in let said = c.taken_of.ensures in let some = c.in-Some.is in
+    let same : on.outcome ≡ c.in-Some.outcome = cc in
+    (on.after, subst (λ o. Ended s.world (database_of (c.args.at + 1)) versions o on.after) same on.ended, on.stands)
+
+pub returns-clause-made : goal.returns-clause-made
+returns-clause-made c =
+    let (s, versions, stands, may) = c.requires.may in
+    (finished_on c.args.at c.args.from c.args.entry versions c.args.sent c.args.seen c.in_ok-reply.reply c.args.self.now c.event.new.self s stands c.event.ensures.names c.in_ok-reply.ensures.ok may).made

@@ -1,0 +1,7 @@
+use Rattle.std.proofs.Common.{refl, ap, sym, subst, arith}
+use Rattle.script_engine.specs.Engines.{Stands}
+use Rattle.script_engine.proofs.Events.{fresh_stands}
+use Rattle.script_engine.proofs.engine.Engine.new.Goals as goal
+
+pub returns-clause-stands : goal.returns-clause-stands
+returns-clause-stands c = fresh_stands _ (ap (λ x. x.items) c.empty.ensures) (ap (λ x. x.items) c.empty-2.ensures)

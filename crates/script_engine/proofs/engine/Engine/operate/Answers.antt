@@ -1,0 +1,26 @@
+use Rattle.std.proofs.Common.{◌≡◌, ◌+◌, subst}
+use Rattle.script_engine.specs.Engines.{Operated, Stands}
+use Rattle.script_engine.specs.Scene.{in_world}
+use Rattle.world_model.specs.World.{World}
+use Rattle.frs_base.specs.Identifiers.{database_of}
+use Rattle.script_engine.proofs.Events.{operated_on}
+use Rattle.script_engine.proofs.engine.Engine.operate.Goals as goal
+
+pub unreachable-requires : goal.unreachable-requires
+unreachable-requires c =
+    let (s, stands) = c.requires.scene in
+    let on = operated_on c.args.at c.args.operation c.in_ok-reply.reply c.args.self.now c.event.new.self s stands c.event.ensures.names c.in_ok-reply.ensures.ok in
+    let reads = on.reads in let said = c.usn_of.ensures in let none = c.in_default.is in cc
+
+pub returns-clause-ok : goal.returns-clause-ok
+returns-clause-ok c = λ s stands.
+    let on = operated_on c.args.at c.args.operation c.in_ok-reply.reply c.args.self.now c.event.new.self s stands c.event.ensures.names c.in_ok-reply.ensures.ok in
+    let reads = on.reads in let said = c.usn_of.ensures in let some = c.in-Some.is in
+    let same : on.outcome ≡ c.in-Some.outcome = cc in
+    (on.after, subst (λ o. Operated s.world (database_of (c.args.at + 1)) c.args.operation o on.after) same on.operated, on.stands)
+
+pub returns-clause-made : goal.returns-clause-made
+returns-clause-made c =
+    let (s, stands) = c.requires.scene in
+    let on = operated_on c.args.at c.args.operation c.in_ok-reply.reply c.args.self.now c.event.new.self s stands c.event.ensures.names c.in_ok-reply.ensures.ok in
+    on.made

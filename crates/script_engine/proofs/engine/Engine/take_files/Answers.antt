@@ -1,0 +1,122 @@
+use Rattle.std.proofs.Common.{◌≡◌, ◌<◌, ◌≤◌, ◌+◌, ◌∙◌, ap, sym, subst, length, Ok, Err, Some, arith}
+use Rattle.frs_base.specs.Identifiers.{database_of}
+use Rattle.world_model.specs.Rounds.{IsWanted}
+use Rattle.script_engine.specs.Engines.{Stands, made_by_all}
+use Rattle.script_engine.specs.Pulling.{TakesFiles}
+use Rattle.script_engine.specs.Pulls.{CanTake, FetchedFrom, Took}
+use Rattle.script_engine.specs.Scene.{in_world}
+use Rattle.script_engine.proofs.Paging.{FilesSo, file_can, files_covered, files_cut, files_end, files_pass, files_take, files_wait, in_place}
+use Rattle.script_engine.proofs.Puller.{said_no, said_yes}
+use Rattle.script_engine.proofs.engine.Engine.take_files.Goals as goal
+use Rattle.script_engine.proofs.engine.Engine.take_files.Goals.{then-wants+in_ok-fetched+in-Ok+in_ok-refusal+in_default, else-wants}
+
+pub fetch-requires-clause-may : goal.fetch-requires-clause-may
+fetch-requires-clause-may c =
+    let e = database_of (c.args.from + 1) in
+    let (s, stands, covered) = c.requires.may in
+    let (w, so, on) = c.loop-file.invariant.ran s stands covered in
+    (in_world s w, on, files_covered s.world w e c.args.files.now c.file-item.result covered so.grows (in_place c.args.files.now c.loop-file.file-index c.file-item.result c.loop-file-test.true c.file-item.is))
+
+pub returns-in-Err-clause-ok : goal.returns-in-Err-clause-ok
+returns-in-Err-clause-ok c = λ s stands covered.
+    let p = database_of (c.args.at + 1) in
+    let e = database_of (c.args.from + 1) in
+    let files = c.args.files.now in
+    let i = c.loop-file.file-index in
+    let u = c.file-item.result in
+    let (w, so, on) = c.loop-file.invariant.ran s stands covered in
+    let wanted = said_yes c.wants.result (IsWanted w p u) (c.wants.ensures (in_world s w) on) c.if-wants.true in
+    let known = files_covered s.world w e files u covered so.grows (in_place files i u c.loop-file-test.true c.file-item.is) in
+    let (fetched, there) = c.in_ok-fetched.ensures.ok (in_world s w) on known in
+    let last = subst (FetchedFrom w e u.uid) c.in-Err.is fetched in
+    (w, (c.loop-file.taken + 0, files_wait s.world p e files i w c.loop-file.taken u c.in-Err.usn so c.loop-file-test.true c.file-item.is wanted last), there)
+
+pub adopt-requires-clause-may : goal.adopt-requires-clause-may
+adopt-requires-clause-may c =
+    let p = database_of (c.args.at + 1) in
+    let e = database_of (c.args.from + 1) in
+    let files = c.args.files.now in
+    let i = c.loop-file.file-index in
+    let u = c.file-item.result in
+    let v = c.in-Ok.fetched.update in
+    let (s, stands, covered) = c.requires.may in
+    let (w, so, on) = c.loop-file.invariant.ran s stands covered in
+    let wanted = said_yes c.wants.result (IsWanted w p u) (c.wants.ensures (in_world s w) on) c.if-wants.true in
+    let known = files_covered s.world w e files u covered so.grows (in_place files i u c.loop-file-test.true c.file-item.is) in
+    let (fetched, there) = c.in_ok-fetched.ensures.ok (in_world s w) on known in
+    let (file, of_file) = subst (FetchedFrom w e u.uid) c.in-Ok.is fetched in
+    (in_world s w, there, subst (λ n. CanTake w p n v) (sym c.loop-file.invariant.server) (file_can w p e u v known wanted file of_file))
+
+pub returns-in-Err-2-clause-ok : goal.returns-in-Err-2-clause-ok
+returns-in-Err-2-clause-ok c = λ s stands covered.
+    let p = database_of (c.args.at + 1) in
+    let e = database_of (c.args.from + 1) in
+    let files = c.args.files.now in
+    let i = c.loop-file.file-index in
+    let u = c.file-item.result in
+    let v = c.in-Ok.fetched.update in
+    let (w, so, on) = c.loop-file.invariant.ran s stands covered in
+    let wanted = said_yes c.wants.result (IsWanted w p u) (c.wants.ensures (in_world s w) on) c.if-wants.true in
+    let known = files_covered s.world w e files u covered so.grows (in_place files i u c.loop-file-test.true c.file-item.is) in
+    let (fetched, there) = c.in_ok-fetched.ensures.ok (in_world s w) on known in
+    let (file, of_file) = subst (FetchedFrom w e u.uid) c.in-Ok.is fetched in
+    let can = subst (λ n. CanTake w p n v) (sym c.loop-file.invariant.server) (file_can w p e u v known wanted file of_file) in
+    let (next, took, after) = c.in_ok-refusal.ensures.ok (in_world s w) there can in
+    let (count, much, why, same) = subst (λ o. Took w p e v o next) c.in-Err-2.is (subst (λ n. Took w p n v c.in_ok-refusal.field-0 next) c.loop-file.invariant.server took) in
+    let cut = files_cut s.world p e files i w c.loop-file.taken u v count so c.loop-file-test.true c.file-item.is wanted file of_file much in
+    (next, (c.loop-file.taken + 0, subst (λ z. TakesFiles s.world p e files (c.loop-file.taken + 0) (Some z) next) (sym why) (subst (TakesFiles s.world p e files (c.loop-file.taken + 0) _) (sym same) cut)), after)
+
+pub loop-file-preserved : goal.loop-file-preserved
+loop-file-preserved c = elim c.if-wants.branch [
+  | then-wants+in_ok-fetched+in-Ok+in_ok-refusal+in_default b ↦
+      let l = c.loop-file.invariant in
+      record {
+        many = ap (λ x. length x.folders.items) b.self-is ∙ b.adopt.ensures.many ∙ b.fetch.ensures.many ∙ l.many;
+        made = ap made_by_all b.self-is ∙ b.in_ok-refusal.ensures.made ∙ b.in_ok-fetched.ensures.made ∙ l.made;
+        few = let few = l.few in let taken = b.taken-is in omega (arith, few, taken);
+        server = l.server;
+        ran = λ s stands covered.
+            let p = database_of (c.args.at + 1) in
+            let e = database_of (c.args.from + 1) in
+            let files = c.args.files.now in
+            let i = c.loop-file.file-index in
+            let u = c.file-item.result in
+            let v = b.in-Ok.fetched.update in
+            let (w, so, on) = l.ran s stands covered in
+            let wanted = said_yes c.wants.result (IsWanted w p u) (c.wants.ensures (in_world s w) on) b.if-wants.true in
+            let known = files_covered s.world w e files u covered so.grows (in_place files i u c.loop-file-test.true c.file-item.is) in
+            let (fetched, there) = b.in_ok-fetched.ensures.ok (in_world s w) on known in
+            let (file, of_file) = subst (FetchedFrom w e u.uid) b.in-Ok.is fetched in
+            let can = subst (λ n. CanTake w p n v) (sym l.server) (file_can w p e u v known wanted file of_file) in
+            let (next, took, after) = b.in_ok-refusal.ensures.ok (in_world s w) there can in
+            let takes = subst (λ o. Took w p e v o next) b.in_default.is (subst (λ n. Took w p n v b.in_ok-refusal.field-0 next) l.server took) in
+            let sound = on.machines.scene.world.invariant in
+            (next,
+            subst (FilesSo s.world p e files (i + 1) next) (sym b.taken-is) (files_take s.world p e files i w c.loop-file.taken u v next sound.versions sound.sent so c.loop-file-test.true c.file-item.is known wanted file of_file takes),
+            subst (λ x. Stands x (in_world s next)) (sym b.self-is) after);
+      }
+  | else-wants b ↦
+      let l = c.loop-file.invariant in
+      record {
+        many = ap (λ x. length x.folders.items) b.self-is ∙ l.many;
+        made = ap made_by_all b.self-is ∙ l.made;
+        few = let few = l.few in let taken = b.taken-is in omega (arith, few, taken);
+        server = l.server;
+        ran = λ s stands covered.
+            let p = database_of (c.args.at + 1) in
+            let e = database_of (c.args.from + 1) in
+            let files = c.args.files.now in
+            let i = c.loop-file.file-index in
+            let u = c.file-item.result in
+            let (w, so, on) = l.ran s stands covered in
+            let never = said_no c.wants.result (IsWanted w p u) (c.wants.ensures (in_world s w) on) b.if-wants.false in
+            (w, subst (FilesSo s.world p e files (i + 1) w) (sym b.taken-is) (files_pass s.world p e files i w c.loop-file.taken u so c.loop-file-test.true c.file-item.is never), subst (λ x. Stands x (in_world s w)) (sym b.self-is) on);
+      }
+]
+
+pub returns-clause-ok : goal.returns-clause-ok
+returns-clause-ok c = λ s stands covered.
+    let p = database_of (c.args.at + 1) in
+    let e = database_of (c.args.from + 1) in
+    let (w, so, on) = c.loop-file.invariant.ran s stands covered in
+    (w, files_end s.world p e c.args.files.now c.loop-file.file-index w c.loop-file.taken so (let past = c.loop-file-test.false in omega (arith, past)), on)

@@ -1,0 +1,115 @@
+use Rattle.std.proofs.Common.{◌≡◌, ◌<◌, ◌≤◌, ◌+◌, ◌++◌, ◌∷◌, [], ◌∙◌, ap, sym, subst, length, true, false, Ok, Err, Some, arith}
+use Rattle.frs_base.specs.Identifiers.{database_of}
+use Rattle.name_rules.specs.Tree.{is_file}
+use Rattle.world_model.specs.Rounds.{IsWanted}
+use Rattle.script_engine.specs.Engines.{Stands, made_by_all}
+use Rattle.script_engine.specs.Pulling.{TakesPages}
+use Rattle.script_engine.specs.Pulls.{CanTake, Took}
+use Rattle.script_engine.specs.Scene.{in_world}
+use Rattle.script_engine.proofs.Paging.{PagesSo, in_place, page_can, pages_cut, pages_end, pages_list, pages_pass, pages_take}
+use Rattle.script_engine.proofs.Puller.{said_no, said_yes}
+use Rattle.script_engine.proofs.engine.Engine.take_pages.Goals as goal
+use Rattle.script_engine.proofs.engine.Engine.take_pages.Goals.{then-wants+then-is_file+in_ok-copy+in_ok-push, then-wants+else-is_file+in_ok-update+in_ok-refusal+in_default, else-wants}
+
+pub adopt-requires-clause-may : goal.adopt-requires-clause-may
+adopt-requires-clause-may c =
+    let p = database_of (c.args.at + 1) in
+    let page = c.args.page.now in
+    let i = c.loop-update.update-index in
+    let u = c.update-item.result in
+    let (s, stands, pages) = c.requires.may in
+    let (w, so, on) = c.loop-update.invariant.ran s stands pages in
+    let wanted = said_yes c.wants.result (IsWanted w p u) (c.wants.ensures (in_world s w) on) c.if-wants.true in
+    let can = page_can s.world w p c.args.from page u stands.machines.scene.world.invariant.versions pages so.grows (in_place page i u c.loop-update-test.true c.update-item.is) wanted in
+    (in_world s w, on, subst (CanTake w p c.args.from) (sym c.in_ok-update.ensures) can)
+
+pub returns-in-Err-clause-ok : goal.returns-in-Err-clause-ok
+returns-in-Err-clause-ok c = λ s stands pages.
+    let p = database_of (c.args.at + 1) in
+    let e = c.args.from in
+    let page = c.args.page.now in
+    let i = c.loop-update.update-index in
+    let u = c.update-item.result in
+    let (w, so, on) = c.loop-update.invariant.ran s stands pages in
+    let wanted = said_yes c.wants.result (IsWanted w p u) (c.wants.ensures (in_world s w) on) c.if-wants.true in
+    let can = page_can s.world w p e page u stands.machines.scene.world.invariant.versions pages so.grows (in_place page i u c.loop-update-test.true c.update-item.is) wanted in
+    let (next, took, after) = c.in_ok-refusal.ensures.ok (in_world s w) on (subst (CanTake w p e) (sym c.in_ok-update.ensures) can) in
+    let (count, much, why, same) = subst (λ o. Took w p e u o next) c.in-Err.is (subst (λ v. Took w p e v c.in_ok-refusal.field-0 next) c.in_ok-update.ensures took) in
+    let file : is_file u ≡ false = sym c.is_file.ensures ∙ c.if-is_file.false in
+    let cut = pages_cut s.world p e page i w c.loop-update.listed.items c.loop-update.taken u count so c.loop-update-test.true c.update-item.is file much in
+    let listed = c.loop-update.listed.items ++ [] in
+    let taken = c.loop-update.taken + 0 in
+    (next, (listed, taken, subst (λ z. TakesPages s.world p e page listed taken (Some z) next) (sym why) (subst (TakesPages s.world p e page listed taken _) (sym same) cut)), after)
+
+pub loop-update-preserved : goal.loop-update-preserved
+loop-update-preserved c = elim c.if-wants.branch [
+  | then-wants+then-is_file+in_ok-copy+in_ok-push b ↦
+      let l = c.loop-update.invariant in
+      record {
+        many = ap (λ x. length x.folders.items) b.self-is ∙ l.many;
+        made = ap made_by_all b.self-is ∙ l.made;
+        few = let few = l.few in let taken = b.taken-is in omega (arith, few, taken);
+        ran = λ s stands pages.
+            let p = database_of (c.args.at + 1) in
+            let e = c.args.from in
+            let page = c.args.page.now in
+            let i = c.loop-update.update-index in
+            let u = c.update-item.result in
+            let (w, so, on) = l.ran s stands pages in
+            let wanted = said_yes c.wants.result (IsWanted w p u) (c.wants.ensures (in_world s w) on) b.if-wants.true in
+            let file : is_file u ≡ true = sym b.is_file.ensures ∙ b.if-is_file.true in
+            let listed : c.if-wants.listed.items ≡ c.loop-update.listed.items ++ u ∷ [] = ap (λ v. v.items) b.listed-is ∙ b.in_ok-push.ensures.items ∙ (λ j. c.loop-update.listed.items ++ b.in_ok-copy.ensures j ∷ []) in
+            let so' = pages_list s.world p e page i w c.loop-update.listed.items c.loop-update.taken u so c.loop-update-test.true c.update-item.is wanted file in
+            (w, subst (λ x. PagesSo s.world p e page (i + 1) w x c.if-wants.taken) (sym listed) (subst (PagesSo s.world p e page (i + 1) w (c.loop-update.listed.items ++ u ∷ [])) (sym b.taken-is) so'),
+            subst (λ x. Stands x (in_world s w)) (sym b.self-is) on);
+      }
+  | then-wants+else-is_file+in_ok-update+in_ok-refusal+in_default b ↦
+      let l = c.loop-update.invariant in
+      record {
+        many = ap (λ x. length x.folders.items) b.self-is ∙ b.adopt.ensures.many ∙ l.many;
+        made = ap made_by_all b.self-is ∙ b.in_ok-refusal.ensures.made ∙ l.made;
+        few = let few = l.few in let taken = b.taken-is in omega (arith, few, taken);
+        ran = λ s stands pages.
+            let p = database_of (c.args.at + 1) in
+            let e = c.args.from in
+            let page = c.args.page.now in
+            let i = c.loop-update.update-index in
+            let u = c.update-item.result in
+            let (w, so, on) = l.ran s stands pages in
+            let wanted = said_yes c.wants.result (IsWanted w p u) (c.wants.ensures (in_world s w) on) b.if-wants.true in
+            let can = page_can s.world w p e page u stands.machines.scene.world.invariant.versions pages so.grows (in_place page i u c.loop-update-test.true c.update-item.is) wanted in
+            let (next, took, after) = b.in_ok-refusal.ensures.ok (in_world s w) on (subst (CanTake w p e) (sym b.in_ok-update.ensures) can) in
+            let takes = subst (λ o. Took w p e u o next) b.in_default.is (subst (λ v. Took w p e v b.in_ok-refusal.field-0 next) b.in_ok-update.ensures took) in
+            let file : is_file u ≡ false = sym b.is_file.ensures ∙ b.if-is_file.false in
+            let listed : c.if-wants.listed.items ≡ c.loop-update.listed.items = ap (λ v. v.items) b.listed-is in
+            let sound = on.machines.scene.world.invariant in
+            let so' = pages_take s.world p e page i w c.loop-update.listed.items c.loop-update.taken u next sound.versions sound.sent so c.loop-update-test.true c.update-item.is file takes in
+            (next, subst (λ x. PagesSo s.world p e page (i + 1) next x c.if-wants.taken) (sym listed) (subst (PagesSo s.world p e page (i + 1) next c.loop-update.listed.items) (sym b.taken-is) so'),
+            subst (λ x. Stands x (in_world s next)) (sym b.self-is) after);
+      }
+  | else-wants b ↦
+      let l = c.loop-update.invariant in
+      record {
+        many = ap (λ x. length x.folders.items) b.self-is ∙ l.many;
+        made = ap made_by_all b.self-is ∙ l.made;
+        few = let few = l.few in let taken = b.taken-is in omega (arith, few, taken);
+        ran = λ s stands pages.
+            let p = database_of (c.args.at + 1) in
+            let e = c.args.from in
+            let page = c.args.page.now in
+            let i = c.loop-update.update-index in
+            let u = c.update-item.result in
+            let (w, so, on) = l.ran s stands pages in
+            let never = said_no c.wants.result (IsWanted w p u) (c.wants.ensures (in_world s w) on) b.if-wants.false in
+            let listed : c.if-wants.listed.items ≡ c.loop-update.listed.items = ap (λ v. v.items) b.listed-is in
+            let so' = pages_pass s.world p e page i w c.loop-update.listed.items c.loop-update.taken u so c.loop-update-test.true c.update-item.is never in
+            (w, subst (λ x. PagesSo s.world p e page (i + 1) w x c.if-wants.taken) (sym listed) (subst (PagesSo s.world p e page (i + 1) w c.loop-update.listed.items) (sym b.taken-is) so'),
+            subst (λ x. Stands x (in_world s w)) (sym b.self-is) on);
+      }
+]
+
+pub returns-clause-ok : goal.returns-clause-ok
+returns-clause-ok c = λ s stands pages.
+    let p = database_of (c.args.at + 1) in
+    let (w, so, on) = c.loop-update.invariant.ran s stands pages in
+    (w, pages_end s.world p c.args.from c.args.page.now c.loop-update.update-index w c.loop-update.listed.items c.loop-update.taken so (let past = c.loop-update-test.false in omega (arith, past)), on)

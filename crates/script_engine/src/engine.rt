@@ -1,0 +1,170 @@
+// The members of a script.
+ghost use Rattle.std.specs.Prelude.{◌≡◌, ◌<◌, ◌≤◌, ◌^◌, IfOk, OnOk, Some, bytes_eq, length, position, slice_get};
+ghost use Rattle.frs_base.specs.Identifiers.{database_of};
+ghost use Rattle.folder_core.specs.Replay.{IsEarlyEvent};
+ghost use Rattle.script_engine.specs.Scene.{Scene, fresh_scene, in_world};
+
+mod journal;
+mod operations;
+mod printing;
+mod pulling;
+
+use crate::replies::{consumed_of, usn_of};
+use crate::{Consumed, MemberName, Refusal};
+use folder_core::{Event, Folder, Reply};
+use frs_base::{Guid, ReservedVec};
+use std::alloc::{AllocError, Global};
+use vol_state::{LocalOp, Refused};
+
+/// Who the events of lines come from.
+const SCRIPT: u64 = 0;
+
+/// The members of a script: the k-th has the k-th database, counted from 1.
+#[derive(Drop)]
+pub struct Engine {
+    names: ReservedVec<MemberName>,
+    folders: ReservedVec<Folder>,
+}
+
+impl Engine {
+    ghost use Rattle.std.specs.Prelude.{◌+◌, ℕ};
+    ghost use Rattle.world_model.specs.World.{World};
+    ghost use Rattle.script_engine.specs.Engines.{Answered, ConsumedAll, ConsumedNext, HasScene, IsWithin, Operated, Stands, consumed_by_all, count_of, made_by_all};
+
+    /// An engine without members, which takes no memory.
+    pub fn new() -> Engine
+        ensures stands { Stands result fresh_scene }
+        ensures within { IsWithin 0 result }
+    {
+        Engine {
+            names: ReservedVec::empty(),
+            folders: ReservedVec::empty(),
+        }
+    }
+
+    /// The place of the first member with this name.
+    fn place_of(&self, name: &[u8]) -> Option<usize>
+        ensures { result ≡ position (λ m. bytes_eq m.name name.now) self.now.names.items }
+    {
+        self.names
+            .as_slice()
+            .iter()
+            .position(|m| m.name.as_slice() == name)
+    }
+
+    /// The folder of the member with this place.
+    fn folder(&self, at: usize) -> &Folder
+        requires { at < length self.now.folders.items }
+        ensures { slice_get self.now.folders.items at ≡ Some result.now }
+    {
+        match self.folders.as_slice().get(at) {
+            Some(folder) => folder,
+            None => unreachable!(),
+        }
+    }
+
+    /// The name of the member with this place, and its database.
+    fn name(&self, at: usize) -> &MemberName
+        requires { at < length self.now.names.items }
+        ensures { slice_get self.now.names.items at ≡ Some result.now }
+    {
+        match self.names.as_slice().get(at) {
+            Some(name) => name,
+            None => unreachable!(),
+        }
+    }
+
+    /// The database of the member with this place.
+    fn database(&self, at: usize) -> Guid
+        requires within { at < length self.now.folders.items }
+        requires scene { HasScene self.now }
+        ensures { result ≡ database_of (at + 1) }
+    {
+        self.name(at).db
+    }
+
+    /// An event at the member with this place.
+    fn event(&mut self, alloc: Global, at: usize, event: Event) -> Result<Reply, AllocError>
+        requires within { at < length self.old.folders.items }
+        requires early { IsEarlyEvent event }
+        ensures names { self.new.names ≡ self.old.names }
+        ensures many { length self.new.folders.items ≡ length self.old.folders.items }
+        ensures ok { IfOk result (λ reply. Answered at event reply self.old self.new) }
+    {
+        let mut folder = self.folders.remove(at);
+        let reply = folder.event(alloc, SCRIPT, event);
+        let _ = folder.book();
+        self.folders.insert(at, folder);
+        reply
+    }
+
+    /// A local operation: its USN, or its first refusal.
+    fn operate(
+        &mut self,
+        alloc: Global,
+        at: usize,
+        operation: LocalOp,
+    ) -> Result<Result<u64, Refused>, AllocError>
+        requires within { at < length self.old.folders.items }
+        requires scene { HasScene self.old }
+        ensures ok { (s : Scene) → Stands self.old s → IfOk result (λ outcome. (w : World) × Operated s.world (database_of (at + 1)) operation outcome w × Stands self.new (in_world s w)) }
+        ensures made { OnOk result (made_by_all self.new ≤ made_by_all self.old + 1) }
+        ensures names { self.new.names ≡ self.old.names }
+        ensures many { length self.new.folders.items ≡ length self.old.folders.items }
+    {
+        let reply = self.event(alloc, at, Event::Local(operation))?;
+        let Some(outcome) = usn_of(reply) else {
+            unreachable!()
+        };
+        Ok(outcome)
+    }
+
+    /// Consumes the next journal record, if there is one.
+    fn consume(
+        &mut self,
+        alloc: Global,
+        at: usize,
+        moment: u64,
+    ) -> Result<Result<Option<Consumed>, Refusal>, AllocError>
+        requires within { at < length self.old.folders.items }
+        requires scene { HasScene self.old }
+        requires early { moment < 2 ^ 61 }
+        requires room { made_by_all self.old < 2 ^ 60 }
+        ensures ok { (s : Scene) → Stands self.old s → IfOk result (λ outcome. (w : World) × ConsumedNext s.world (database_of (at + 1)) moment outcome w × Stands self.new (in_world s w)) }
+        ensures made { OnOk result (made_by_all self.new ≡ made_by_all self.old) }
+        ensures more { IfOk result (λ outcome. consumed_by_all self.new ≡ consumed_by_all self.old + count_of outcome) }
+        ensures names { self.new.names ≡ self.old.names }
+        ensures many { length self.new.folders.items ≡ length self.old.folders.items }
+    {
+        let reply = self.event(alloc, at, Event::Consume { moment })?;
+        let Some(outcome) = consumed_of(&reply) else {
+            unreachable!()
+        };
+        Ok(outcome)
+    }
+
+    /// Consumes what is left of the journal. The last of it, or why one is refused.
+    fn consume_all(
+        &mut self,
+        alloc: Global,
+        at: usize,
+        moment: u64,
+    ) -> Result<Result<Option<Consumed>, Refusal>, AllocError>
+        requires within { at < length self.old.folders.items }
+        requires scene { HasScene self.old }
+        requires early { moment < 2 ^ 61 }
+        requires room { made_by_all self.old < 2 ^ 60 }
+        ensures ok { (s : Scene) → Stands self.old s → IfOk result (λ outcome. (w : World) × ConsumedAll s.world (database_of (at + 1)) moment outcome w × Stands self.new (in_world s w)) }
+        ensures made { OnOk result (made_by_all self.new ≡ made_by_all self.old) }
+        ensures names { self.new.names ≡ self.old.names }
+    {
+        let mut last = None;
+        loop {
+            match self.consume(alloc, at, moment)? {
+                Ok(Some(consumed)) => last = Some(consumed),
+                Ok(None) => return Ok(Ok(last)),
+                Err(refusal) => return Ok(Err(refusal)),
+            }
+        }
+    }
+}

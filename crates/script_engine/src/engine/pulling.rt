@@ -1,0 +1,314 @@
+// Lines that bring a member what another one has.
+ghost use Rattle.std.specs.Prelude.{◌≡◌, ◌≢◌, ◌<◌, ◌≤◌, ◌^◌, IfOk, OnOk, length};
+ghost use Rattle.std.specs.List.Sorted.{IsPermutation, IsSortedBy};
+ghost use Rattle.std.specs.Ordering.{is_lt};
+ghost use Rattle.frs_base.specs.Identifiers.{database_of};
+ghost use Rattle.name_rules.specs.Tree.{is_file};
+ghost use Rattle.record_db.specs.Records.{Covered, Versions};
+ghost use Rattle.world_model.specs.Events.{sends_vector};
+ghost use Rattle.world_model.specs.Rounds.{IsWanted};
+ghost use Rattle.script_engine.specs.Pulls.{uncovered, version_lt};
+ghost use Rattle.script_engine.specs.Scene.{Scene, in_world};
+
+use super::Engine;
+use crate::Refusal;
+use crate::replies::{file_of, pinned_of, taken_of};
+use folder_core::Event;
+use frs_base::{Guid, List, Uid};
+use pinned_pages::{FileAnswer, Pinned};
+use std::alloc::{AllocError, Global};
+use std::cmp::Ordering;
+use version_vector::Vector;
+use win_order::Update;
+
+/// What came of pages: the files that are still to be fetched, and how many updates were taken.
+#[derive(Drop)]
+pub(crate) struct Paged {
+    listed: Vec<Update>,
+    taken: u64,
+}
+
+/// A file's record, as of an entry of its member's history.
+#[derive(Drop)]
+pub(crate) struct Fetched {
+    at: u64,
+    update: Update,
+}
+
+/// Compares two updates by their versions.
+fn by_version(a: &Update, b: &Update) -> Ordering
+    ensures { is_lt result ≡ version_lt a.now b.now }
+{
+    if a.gvsn < b.gvsn {
+        Ordering::Less
+    } else if b.gvsn < a.gvsn {
+        Ordering::Greater
+    } else {
+        Ordering::Equal
+    }
+}
+
+/// Whether it is a present file.
+fn is_file(update: &Update) -> bool
+    ensures { result ≡ is_file update.now }
+{
+    update.present && !update.is_directory()
+}
+
+/// Those whose versions a vector doesn't cover.
+fn uncovered(
+    alloc: Global,
+    vector: &Vector,
+    records: &[Update],
+) -> Result<Vec<Update>, AllocError>
+    ensures { IfOk result (λ page. page.items ≡ uncovered vector.now records.now) }
+{
+    let mut page = Vec::new(alloc);
+    for record in records {
+        if !vector.covers(record.gvsn) {
+            page.push(record.copy(alloc)?)?;
+        }
+    }
+    Ok(page)
+}
+
+/// Those whose versions a vector doesn't cover, in order of their versions.
+fn page_of(alloc: Global, vector: &Vector, records: &[Update]) -> Result<Vec<Update>, AllocError>
+    ensures { IfOk result (λ page. IsPermutation (uncovered vector.now records.now) page.items × IsSortedBy version_lt page.items) }
+{
+    let mut page = uncovered(alloc, vector, records)?;
+    page.sort_unstable_by(|a, b| by_version(a, b));
+    Ok(page)
+}
+
+impl Engine {
+    ghost use Rattle.std.specs.Prelude.{◌+◌, ℕ};
+    ghost use Rattle.win_order.specs.declared.update.Update.{Update};
+    ghost use Rattle.world_model.specs.World.{World};
+    ghost use Rattle.script_engine.specs.Engines.{HasScene, Stands, made_by_all};
+    ghost use Rattle.script_engine.specs.Pulls.{AreCovered, ArePages, CanTake, Ended, FetchedFrom, FilesTaken, IsPinned, MayEnd, MayFetch, MayFinish, MayPage, MayTake, PagesTaken, PullEnds, Says, Took};
+
+    /// The vector and the records of the member with this place.
+    fn ask(&mut self, alloc: Global, at: usize) -> Result<Pinned, AllocError>
+        requires within { at < length self.old.folders.items }
+        requires scene { HasScene self.old }
+        ensures ok { (s : Scene) → Stands self.old s → IfOk result (λ pinned. IsPinned s.world (database_of (at + 1)) pinned × Stands self.new (in_world s (sends_vector s.world (database_of (at + 1))))) }
+        ensures made { OnOk result (made_by_all self.new ≡ made_by_all self.old) }
+        ensures many { length self.new.folders.items ≡ length self.old.folders.items }
+    {
+        let reply = self.event(alloc, at, Event::Vector)?;
+        let Some(pinned) = pinned_of(reply) else {
+            unreachable!()
+        };
+        Ok(pinned)
+    }
+
+    /// Whether an update beats the record of its file at the member with this place, or there is
+    /// none.
+    fn wants(&self, at: usize, update: &Update) -> bool
+        requires { at < length self.now.folders.items }
+        ensures { (s : Scene) → Stands self.now s → Says result (IsWanted s.world (database_of (at + 1)) update.now) }
+    {
+        match self.folder(at).book().held(update.uid) {
+            None => true,
+            Some(held) => update.beats(held),
+        }
+    }
+
+    /// An update that the member of a database sent in this entry of its history is adopted.
+    fn adopt(
+        &mut self,
+        alloc: Global,
+        at: usize,
+        from: Guid,
+        entry: u64,
+        update: Update,
+    ) -> Result<Result<(), Refusal>, AllocError>
+        requires within { at < length self.old.folders.items }
+        requires may { MayTake self.old (database_of (at + 1)) from update }
+        requires room { made_by_all self.old < 2 ^ 60 }
+        ensures ok { (s : Scene) → Stands self.old s → CanTake s.world (database_of (at + 1)) from update → IfOk result (λ outcome. (w : World) × Took s.world (database_of (at + 1)) from update outcome w × Stands self.new (in_world s w)) }
+        ensures made { OnOk result (made_by_all self.new ≡ made_by_all self.old) }
+        ensures many { length self.new.folders.items ≡ length self.old.folders.items }
+    {
+        let event = Event::Adopt {
+            from,
+            at: entry,
+            update,
+            form: None,
+        };
+        let reply = self.event(alloc, at, event)?;
+        let Some(outcome) = taken_of(reply) else {
+            unreachable!()
+        };
+        Ok(outcome)
+    }
+
+    /// The record of a file at the member with this place, or the USN of what it has to consume
+    /// first.
+    fn fetch(
+        &mut self,
+        alloc: Global,
+        at: usize,
+        update: &Update,
+    ) -> Result<Result<Fetched, u64>, AllocError>
+        requires within { at < length self.old.folders.items }
+        requires may { (s : Scene) × Stands self.old s × Covered s.world.all (s.world.at (database_of (at + 1))).known update.now }
+        ensures ok { (s : Scene) → Stands self.old s → Covered s.world.all (s.world.at (database_of (at + 1))).known update.now
+            → IfOk result (λ outcome. FetchedFrom s.world (database_of (at + 1)) update.now.uid outcome × Stands self.new s) }
+        ensures made { OnOk result (made_by_all self.new ≡ made_by_all self.old) }
+        ensures many { length self.new.folders.items ≡ length self.old.folders.items }
+    {
+        let reply = self.event(alloc, at, Event::File { uid: update.uid })?;
+        match file_of(reply) {
+            Some(FileAnswer::Found { at, update }) => Ok(Ok(Fetched { at, update })),
+            Some(FileAnswer::NotYet { usn }) => Ok(Err(usn)),
+            Some(FileAnswer::NoRecord) => unreachable!(),
+            None => unreachable!(),
+        }
+    }
+
+    /// A round over a vector that the member of a database sent in this entry of its history is
+    /// finished.
+    fn finish(
+        &mut self,
+        alloc: Global,
+        at: usize,
+        from: Guid,
+        entry: u64,
+        sent: Vector,
+        seen: List<Update>,
+    ) -> Result<Result<(), Refusal>, AllocError>
+        requires within { at < length self.old.folders.items }
+        requires may { MayEnd self.old (database_of (at + 1)) sent seen }
+        ensures ok { (s : Scene) (versions : Versions) → Stands self.old s → MayFinish s.world (database_of (at + 1)) versions sent seen
+            → IfOk result (λ outcome. (w : World) × Ended s.world (database_of (at + 1)) versions outcome w × Stands self.new (in_world s w)) }
+        ensures made { OnOk result (made_by_all self.new ≡ made_by_all self.old) }
+    {
+        let event = Event::Finish {
+            from,
+            at: entry,
+            sent,
+            seen,
+        };
+        let reply = self.event(alloc, at, event)?;
+        let Some(outcome) = taken_of(reply) else {
+            unreachable!()
+        };
+        Ok(outcome)
+    }
+
+    /// The updates of pages: what doesn't beat the puller's record is passed, present files are
+    /// listed, directories and tombstones are taken.
+    fn take_pages(
+        &mut self,
+        alloc: Global,
+        at: usize,
+        from: Guid,
+        entry: u64,
+        page: &[Update],
+    ) -> Result<Result<Paged, Refusal>, AllocError>
+        requires within { at < length self.old.folders.items }
+        requires may { MayPage self.old from page.now }
+        requires room { made_by_all self.old < 2 ^ 60 }
+        ensures ok { (s : Scene) → Stands self.old s → ArePages s.world from page.now
+            → IfOk result (λ outcome. (w : World) × PagesTaken s.world (database_of (at + 1)) from page.now outcome w × Stands self.new (in_world s w)) }
+        ensures few { IfOk result (λ outcome. IfOk outcome (λ paged. paged.taken ≤ length page.now)) }
+        ensures made { OnOk result (made_by_all self.new ≡ made_by_all self.old) }
+        ensures many { length self.new.folders.items ≡ length self.old.folders.items }
+    {
+        let mut listed = Vec::new(alloc);
+        let mut taken = 0;
+        for update in page {
+            if self.wants(at, update) {
+                if is_file(update) {
+                    listed.push(update.copy(alloc)?)?;
+                } else {
+                    let update = update.copy(alloc)?;
+                    if let Err(refusal) = self.adopt(alloc, at, from, entry, update)? {
+                        return Ok(Err(refusal));
+                    }
+                    taken += 1;
+                }
+            }
+        }
+        Ok(Ok(Paged { listed, taken }))
+    }
+
+    /// The listed files: what doesn't beat the puller's record any more is passed, the others are
+    /// fetched and taken. How many were.
+    fn take_files(
+        &mut self,
+        alloc: Global,
+        at: usize,
+        from: usize,
+        files: &[Update],
+    ) -> Result<Result<u64, Refusal>, AllocError>
+        requires within { at < length self.old.folders.items }
+        requires there { from < length self.old.folders.items }
+        requires may { MayFetch self.old (database_of (from + 1)) files.now }
+        requires room { made_by_all self.old < 2 ^ 60 }
+        ensures ok { (s : Scene) → Stands self.old s → AreCovered s.world (database_of (from + 1)) files.now
+            → IfOk result (λ outcome. (w : World) × FilesTaken s.world (database_of (at + 1)) (database_of (from + 1)) files.now outcome w × Stands self.new (in_world s w)) }
+        ensures few { IfOk result (λ outcome. IfOk outcome (λ taken. taken ≤ length files.now)) }
+        ensures made { OnOk result (made_by_all self.new ≡ made_by_all self.old) }
+        ensures many { length self.new.folders.items ≡ length self.old.folders.items }
+    {
+        let server = self.database(from);
+        let mut taken = 0;
+        for file in files {
+            if self.wants(at, file) {
+                let fetched = match self.fetch(alloc, from, file)? {
+                    Ok(fetched) => fetched,
+                    Err(usn) => return Ok(Err(Refusal::NotYet { usn })),
+                };
+                let Fetched { at: entry, update } = fetched;
+                if let Err(refusal) = self.adopt(alloc, at, server, entry, update)? {
+                    return Ok(Err(refusal));
+                }
+                taken += 1;
+            }
+        }
+        Ok(Ok(taken))
+    }
+
+    /// A round: the server's vector is asked for, its updates that the puller doesn't cover come in
+    /// order of their versions, then the files, and the round is finished. How many were taken.
+    fn pull(
+        &mut self,
+        alloc: Global,
+        at: usize,
+        from: usize,
+    ) -> Result<Result<u64, Refusal>, AllocError>
+        requires within { at < length self.old.folders.items }
+        requires there { from < length self.old.folders.items }
+        requires scene { HasScene self.old }
+        requires room { made_by_all self.old < 2 ^ 60 }
+        ensures ok { (s : Scene) → Stands self.old s
+            → IfOk result (λ outcome. (w : World) × PullEnds s.world (database_of (at + 1)) (database_of (from + 1)) outcome w × Stands self.new (in_world s w)) }
+        ensures made { OnOk result (made_by_all self.new ≡ made_by_all self.old) }
+    {
+        let server = self.database(from);
+        let pinned = self.ask(alloc, from)?;
+        let entry = pinned.at;
+        let page = page_of(
+            alloc,
+            self.folder(at).book().vector(),
+            pinned.records.as_slice(),
+        )?;
+        let paged = match self.take_pages(alloc, at, server, entry, &page)? {
+            Ok(paged) => paged,
+            Err(refusal) => return Ok(Err(refusal)),
+        };
+        let fetched = match self.take_files(alloc, at, from, &paged.listed)? {
+            Ok(fetched) => fetched,
+            Err(refusal) => return Ok(Err(refusal)),
+        };
+        let taken = paged.taken + fetched;
+        let seen = List::of(page);
+        match self.finish(alloc, at, server, entry, pinned.vector, seen)? {
+            Ok(()) => Ok(Ok(taken)),
+            Err(refusal) => Ok(Err(refusal)),
+        }
+    }
+}
