@@ -1,7 +1,8 @@
 #!/bin/sh
-# Times the built program on scripts of `show` lines, of `change` lines over 97 paths, the largest that
-# a script may be and smaller ones, and of three members that change and pull. Each time is the least of five runs, with the start of the
-# process in it.
+# Times the built program on scripts of `show` lines, of `change` lines over 97 paths, the largest
+# that a script may be and smaller ones, these with a bad row at their end, one of paths of 64
+# components, and of three members that change and pull. Each time is the least of five runs, with the
+# start of the process in it.
 # Usage: bench/four-lines.sh, anywhere in the repository.
 set -eu
 top=$(cd "$(dirname "$0")/.." && pwd)
@@ -35,10 +36,21 @@ pulls() {
     }'
 }
 
+# one member, and this many `change` lines at a path of 64 components, which are read and not done
+deep() {
+    echo 'member a primary'
+    yes "change a $(printf 'c/%.0s' $(seq 63))c 1" | head -n "$1"
+}
+
+# as many of the first lines as the largest script has room for
+largest() {
+    head -c 16777212 | sed '$d'
+}
+
 timed() {
     for _ in 1 2 3 4 5; do
         start=$(date +%s%N)
-        "$dfsr" script <"$1" >"$work/out"
+        "$dfsr" script <"$1" >"$work/out" || true
         end=$(date +%s%N)
         echo $(((end - start) / 1000))
     done | sort -n | head -n 1
@@ -53,6 +65,18 @@ for lines in 5000 10000 20000 56076; do
     changes $lines >"$work/script"
     echo "$(wc -c <"$work/script") bytes, $lines change lines: $(timed "$work/script") microseconds"
 done
+
+for kind in shows changes; do
+    $kind 2400000 | largest >"$work/script"
+    echo "$(wc -c <"$work/script") bytes, the most $kind: $(timed "$work/script") microseconds"
+    echo show >>"$work/script"
+    echo "$(wc -c <"$work/script") bytes, the most $kind and a bad row: $(timed "$work/script") microseconds"
+    tail -n 1 "$work/out"
+done
+
+deep 130000 | largest >"$work/script"
+echo "$(wc -c <"$work/script") bytes, paths of 64 components: $(timed "$work/script") microseconds"
+tail -n 1 "$work/out"
 
 for lines in 5000 10000 20000; do
     pulls $lines >"$work/script"

@@ -4,8 +4,8 @@ use Rattle.std.specs.Prelude.{is_some, nat_le, slice_get}
 use Rattle.std.proofs.lemmas.Bool.{cases_eq}
 use Rattle.frs_base.specs.declared.version.Gvsn.{Gvsn}
 use Rattle.win_order.specs.declared.update.Update.{Update}
-use Rattle.dfsr.specs.declared.line.Line.{Line}
-use Rattle.dfsr.specs.declared.line.Line.TheVariants as lines
+use Rattle.script_lang.specs.declared.line.Line.{Line}
+use Rattle.script_lang.specs.declared.line.Line.TheVariants as lines
 use Rattle.dfsr.specs.Change.{change_of, next_gvsn}
 use Rattle.dfsr.specs.Laws.{IsCovered, Lasts}
 use Rattle.dfsr.specs.Records.{Covered, In, IsWinner, Lists}
@@ -57,9 +57,9 @@ does_last w (lines.Member name kind) text new does = by (is_some (place_of w.mem
     by : (b : Bool) → MatchOption (cond b (Some (Exists name)) None) (Acts w (lines.Member name kind) text new) (λ why. IsRefused w why text new) → AllLast w new
     by true (said, same) = same_last w new same
     by false (said, is) = subst (AllLast w) (sym is) (λ j n at. (n, get_push w.members (fresh_member name kind) j n at, (refl, λ g t. t)))
-does_last w (lines.Change name path moment) text new does = by (is_some (place_of w.members name)) does
+does_last w (lines.Change name (path ∷ []) moment) text new does = by (is_some (place_of w.members name)) does
   where
-    by : (b : Bool) → MatchOption (cond b None (Some (Unknown name))) (Acts w (lines.Change name path moment) text new) (λ why. IsRefused w why text new) → AllLast w new
+    by : (b : Bool) → MatchOption (cond b None (Some (Unknown name))) (Acts w (lines.Change name (path ∷ []) moment) text new) (λ why. IsRefused w why text new) → AllLast w new
     by true (k, m, held, named, h, (vector, v, acts)) =
         widened _ (AllLast w) w (length vector) text new (nat_le (length vector) 65536) (all_same w)
         (λ a. subst (AllLast w) (sym a.1) (λ j n at. lasts_at w.members k j m _ n named.1 at (refl, λ g t. plus_old m.known (next_gvsn k m) g t))) acts
@@ -78,6 +78,7 @@ does_last w (lines.Show name) text new does = by (is_some (place_of w.members na
     by : (b : Bool) → MatchOption (cond b None (Some (Unknown name))) (Acts w (lines.Show name) text new) (λ why. IsRefused w why text new) → AllLast w new
     by true (k, m, named, shows, same) = same_last w new same
     by false (said, same) = same_last w new same
+does_last w _ text new does = absurd does
 
 -- what a member covers it covers after every further line
 pub stays_covered : (w : World) (more : List Line) (said : List ℕ) (new : World) → Run w more said new → (k : ℕ) (m : Member) → slice_get w.members k ≡ Some m → (n : Member) × (slice_get new.members k ≡ Some n) × Lasts m n
@@ -106,7 +107,7 @@ does_cover w (lines.Member name kind) text new all does = by (is_some (place_of 
     by true (said, same) = same_covered w new same all
     by false (said, is) =
         subst AllCovered (sym is) (λ u h. covered_later w (with_member w (fresh_member name kind)) u.gvsn (λ j n at. (n, get_push w.members (fresh_member name kind) j n at, (refl, λ g t. t))) (all u h))
-does_cover w (lines.Change name path moment) text new all does = by (is_some (place_of w.members name)) does
+does_cover w (lines.Change name (path ∷ []) moment) text new all does = by (is_some (place_of w.members name)) does
   where
     after : (k : ℕ) (m : Member) (held : Option Update) → slice_get w.members k ≡ Some m → AllCovered (after_change w k m path (change_of k m path moment held))
     after k m held at u h = elim (in_push u (change_of k m path moment held) w.all h) [
@@ -115,7 +116,7 @@ does_cover w (lines.Change name path moment) text new all does = by (is_some (pl
           (k, _, get_set_same w.members k m _ at, refl, plus_new m.known (next_gvsn k m))
     ]
 
-    by : (b : Bool) → MatchOption (cond b None (Some (Unknown name))) (Acts w (lines.Change name path moment) text new) (λ why. IsRefused w why text new) → AllCovered new
+    by : (b : Bool) → MatchOption (cond b None (Some (Unknown name))) (Acts w (lines.Change name (path ∷ []) moment) text new) (λ why. IsRefused w why text new) → AllCovered new
     by true (k, m, held, named, h, (vector, v, acts)) =
         widened _ AllCovered w (length vector) text new (nat_le (length vector) 65536) all (λ a. subst AllCovered (sym a.1) (after k m held named.1)) acts
     by false (said, same) = same_covered w new same all
@@ -133,6 +134,7 @@ does_cover w (lines.Show name) text new all does = by (is_some (place_of w.membe
     by : (b : Bool) → MatchOption (cond b None (Some (Unknown name))) (Acts w (lines.Show name) text new) (λ why. IsRefused w why text new) → AllCovered new
     by true (k, m, named, shows, same) = same_covered w new same all
     by false (said, same) = same_covered w new same all
+does_cover w _ text new all does = absurd does
 
 run_covers : (w : World) (before : List Line) (said : List ℕ) (new : World) → AllCovered w → Run w before said new → AllCovered new
 run_covers w [] said new all (text, same) = same_covered w new same all

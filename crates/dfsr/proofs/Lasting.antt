@@ -1,6 +1,7 @@
 -- What lasts through a run, and that a line does one thing.
 use Rattle.std.proofs.Common.{◌≡◌, ◌++◌, ℕ, Bool, true, false, cond, List, [], ◌∷◌, length, refl, sym, ap, ◌∙◌, subst, Option, Some, None, MatchBool, MatchOption, bytes_eq}
 use Rattle.std.specs.Prelude.{codes, flat_map, is_some, nat_le, slice_get}
+use Rattle.std.specs.List.{AllByRecursion}
 use Rattle.frs_base.specs.declared.kind.MemberKind.{MemberKind}
 use Rattle.frs_base.specs.declared.version.Gvsn.{Gvsn}
 use Rattle.version_vector.specs.Places.{one_version}
@@ -8,18 +9,17 @@ use Rattle.version_vector.specs.Unions.{inserted}
 use Rattle.version_vector.specs.declared.interval.Interval.{Interval}
 use Rattle.version_vector.proofs.Uniqueness.{unique}
 use Rattle.win_order.specs.declared.update.Update.{Update}
-use Rattle.dfsr.specs.declared.line.Line.{Line}
-use Rattle.dfsr.specs.declared.line.Line.TheVariants as lines
-use Rattle.dfsr.specs.Answers.{IsText}
+use Rattle.script_lang.specs.declared.line.Line.{Line}
+use Rattle.script_lang.specs.declared.line.Line.TheVariants as lines
+use Rattle.dfsr.specs.Built.{is_built}
 use Rattle.dfsr.specs.Change.{change_of, next_gvsn, uid_at}
 use Rattle.dfsr.specs.Printed.{printed, record_words, vector_words}
 use Rattle.dfsr.specs.Pulls.{adopted}
 use Rattle.dfsr.specs.Putting.{put_all}
 use Rattle.dfsr.specs.Records.{Covered, In, IsAdopted, IsHeld, IsWinner, Lists, both, plus}
 use Rattle.dfsr.specs.Standing.{IsSound}
-use Rattle.dfsr.specs.Text.{Acts, Does, Exists, IsRefused, IsVector, Itself, Run, Shows, Unknown, VectorFull, Widens, after_change, after_pull, change_words, pull_words, refusal_words}
+use Rattle.dfsr.specs.Text.{Acts, Does, Exists, IsRefused, IsVector, Itself, Prints, Run, Shows, Unknown, VectorFull, Widens, after_change, after_pull, change_words, pull_words, refusal_words}
 use Rattle.dfsr.specs.World.{IsNamed, Member, World, fresh_member, fresh_world, names_of, place_of, with_member}
-use Rattle.dfsr.proofs.Causes.{one_script}
 use Rattle.dfsr.proofs.Listing.{found_held, one_list}
 use Rattle.dfsr.proofs.Made.{pulled_sound, sound_with_member}
 use Rattle.dfsr.proofs.Members.{covers_nothing, found_at, held_at, vector_more}
@@ -95,9 +95,9 @@ does_kept w (lines.Member name kind) text new kept does = by (is_some (place_of 
     by : (b : Bool) → MatchOption (cond b (Some (Exists name)) None) (Acts w (lines.Member name kind) text new) (λ why. IsRefused w why text new) → IsKept new
     by true (said, same) = subst IsKept (sym same) kept
     by false (said, is) = subst IsKept (sym is) (kept_with_member w name kind kept)
-does_kept w (lines.Change name path moment) text new kept does = by (is_some (place_of w.members name)) does
+does_kept w (lines.Change name (path ∷ []) moment) text new kept does = by (is_some (place_of w.members name)) does
   where
-    by : (b : Bool) → MatchOption (cond b None (Some (Unknown name))) (Acts w (lines.Change name path moment) text new) (λ why. IsRefused w why text new) → IsKept new
+    by : (b : Bool) → MatchOption (cond b None (Some (Unknown name))) (Acts w (lines.Change name (path ∷ []) moment) text new) (λ why. IsRefused w why text new) → IsKept new
     by true (k, m, held, named, h, (vector, v, acts)) =
         widened _ IsKept w (length vector) text new (nat_le (length vector) 65536) kept (λ a. subst IsKept (sym a.1) (kept_after_change w k m path moment held kept named.1 h)) acts
     by false (said, same) = subst IsKept (sym same) kept
@@ -114,6 +114,7 @@ does_kept w (lines.Show name) text new kept does = by (is_some (place_of w.membe
     by : (b : Bool) → MatchOption (cond b None (Some (Unknown name))) (Acts w (lines.Show name) text new) (λ why. IsRefused w why text new) → IsKept new
     by true (k, m, named, shows, same) = subst IsKept (sym same) kept
     by false (said, same) = subst IsKept (sym same) kept
+does_kept w _ text new kept does = absurd does
 
 run_kept : (w : World) (before : List Line) (text : List ℕ) (new : World) → IsKept w → Run w before text new → IsKept new
 run_kept w [] text new kept (said, is) = subst IsKept (sym is) kept
@@ -123,16 +124,16 @@ run_kept w (line ∷ before) text new kept (first, mid, rest, does, run, said) =
 
 -- a change with a record and a vector at hand
 change_prints : (w : World) (name path : List ℕ) (moment k : ℕ) (m : Member) (held : Option Update) (vector : List Interval) → IsNamed w name k m → IsHeld (Covered w.all m.known) (uid_at k m path) held
-    → IsVector (plus m.known (next_gvsn k m)) vector → (text : List ℕ) × (new : World) × Does w (lines.Change name path moment) text new
+    → IsVector (plus m.known (next_gvsn k m)) vector → (text : List ℕ) × (new : World) × Does w (lines.Change name (path ∷ []) moment) text new
 change_prints w name path moment k m held vector named h v = by (nat_le (length vector) 65536) refl
   where
     Then : List ℕ → World → Bool → Type 0
     Then text new t = MatchBool t ((text ≡ printed (change_words name m.next)) × (new ≡ after_change w k m path (change_of k m path moment held))) (IsRefused w (VectorFull (length vector)) text new)
 
-    does : (text : List ℕ) (new : World) → Then text new (nat_le (length vector) 65536) → (text : List ℕ) × (new : World) × Does w (lines.Change name path moment) text new
+    does : (text : List ℕ) (new : World) → Then text new (nat_le (length vector) 65536) → (text : List ℕ) × (new : World) × Does w (lines.Change name (path ∷ []) moment) text new
     does text new then = (text, new, acts_if _ (Unknown name) _ (ap is_some named.0) (k, m, held, named, h, (vector, v, then)))
 
-    by : (b : Bool) → nat_le (length vector) 65536 ≡ b → (text : List ℕ) × (new : World) × Does w (lines.Change name path moment) text new
+    by : (b : Bool) → nat_le (length vector) 65536 ≡ b → (text : List ℕ) × (new : World) × Does w (lines.Change name (path ∷ []) moment) text new
     by true e = does (printed (change_words name m.next)) (after_change w k m path (change_of k m path moment held)) (subst (Then _ _) (sym e) (refl, refl))
     by false e = does (printed (refusal_words (VectorFull (length vector)))) w (subst (Then _ _) (sym e) (refl, refl))
 
@@ -153,22 +154,22 @@ pull_prints w name partner k m j n us vector named other apart a v = by (nat_le 
     by true e = does (printed (pull_words (length us))) (after_pull w k m n) (subst (Then _ _) (sym e) (refl, refl))
     by false e = does (printed (refusal_words (VectorFull (length vector)))) w (subst (Then _ _) (sym e) (refl, refl))
 
-line_prints : (w : World) → IsKept w → (line : Line) → (text : List ℕ) × (new : World) × Does w line text new
-line_prints w kept (lines.Member name kind) = by (is_some (place_of w.members name)) refl
+line_prints : (w : World) → IsKept w → (line : Line) → is_built line ≡ true → (text : List ℕ) × (new : World) × Does w line text new
+line_prints w kept (lines.Member name kind) built = by (is_some (place_of w.members name)) refl
   where
     by : (b : Bool) → is_some (place_of w.members name) ≡ b → (text : List ℕ) × (new : World) × Does w (lines.Member name kind) text new
     by true e = (_, w, refused_if _ _ (Exists name) _ e (refl, refl))
     by false e = (_, with_member w (fresh_member name kind), acts_unless _ (Exists name) _ e (refl, refl))
-line_prints w kept (lines.Change name path moment) = by (place_of w.members name) refl
+line_prints w kept (lines.Change name (path ∷ []) moment) built = by (place_of w.members name) refl
   where
-    by : (found : Option ℕ) → place_of w.members name ≡ found → (text : List ℕ) × (new : World) × Does w (lines.Change name path moment) text new
+    by : (found : Option ℕ) → place_of w.members name ≡ found → (text : List ℕ) × (new : World) × Does w (lines.Change name (path ∷ []) moment) text new
     by None e = (_, w, refused_unless _ _ (Unknown name) _ (ap is_some e) (refl, refl))
     by (Some k) e =
         let (m, at) = found_at (λ m. bytes_eq m.name name) w.members k e in
         let (vector, records, v, l) = kept.lists k m at in
         change_prints w name path moment k m (held_at k m path records) (inserted (one_version (next_gvsn k m)) vector) (e, at) (found_held w.all m.known records (uid_at k m path) l)
         (vector_more m.known vector (next_gvsn k m) v)
-line_prints w kept (lines.Pull name partner) = by (place_of w.members name) (place_of w.members partner) (bytes_eq name partner) refl refl refl
+line_prints w kept (lines.Pull name partner) built = by (place_of w.members name) (place_of w.members partner) (bytes_eq name partner) refl refl refl
   where
     by : (found other : Option ℕ) (same : Bool) → place_of w.members name ≡ found → place_of w.members partner ≡ other → bytes_eq name partner ≡ same
         → (text : List ℕ) × (new : World) × Does w (lines.Pull name partner) text new
@@ -180,7 +181,7 @@ line_prints w kept (lines.Pull name partner) = by (place_of w.members name) (pla
         let (n, from) = found_at (λ m. bytes_eq m.name partner) w.members j f in
         let (vector, us, records, v, a, l) = both_lists w.all m n kept.sound.one_each (kept.lists k m at) (kept.lists j n from) in
         pull_prints w name partner k m j n us vector (e, at) (f, from) g a v
-line_prints w kept (lines.Show name) = by (place_of w.members name) refl
+line_prints w kept (lines.Show name) built = by (place_of w.members name) refl
   where
     by : (found : Option ℕ) → place_of w.members name ≡ found → (text : List ℕ) × (new : World) × Does w (lines.Show name) text new
     by None e = (_, w, refused_unless _ _ (Unknown name) _ (ap is_some e) (refl, refl))
@@ -188,23 +189,24 @@ line_prints w kept (lines.Show name) = by (place_of w.members name) refl
         let (m, at) = found_at (λ m. bytes_eq m.name name) w.members k e in
         let (vector, records, v, l) = kept.lists k m at in
         (_, w, acts_if _ (Unknown name) _ (ap is_some e) (k, m, (e, at), (vector, records, v, l, refl), refl))
+line_prints w kept _ built = absurd (cc)
 
 -- each line prints something in every world that a run reaches
-pub every_line : (before : List Line) (said : List ℕ) (w : World) → Run fresh_world before said w → (line : Line) → (text : List ℕ) × (new : World) × Does w line text new
-every_line before said w run line = line_prints w (run_kept fresh_world before said w fresh_is_kept run) line
+pub every_line : (before : List Line) (said : List ℕ) (w : World) → Run fresh_world before said w → (line : Line) → is_built line ≡ true → (text : List ℕ) × (new : World) × Does w line text new
+every_line before said w run line built = line_prints w (run_kept fresh_world before said w fresh_is_kept run) line built
 
-lines_print : (w : World) → IsKept w → (more : List Line) → (text : List ℕ) × (new : World) × Run w more text new
-lines_print w kept [] = ([], w, (refl, refl))
-lines_print w kept (line ∷ more) =
-    let (first, mid, does) = line_prints w kept line in
-    let (rest, new, run) = lines_print mid (does_kept w line first mid kept does) more in
+lines_print : (w : World) → IsKept w → (more : List Line) → AllByRecursion (λ line. is_built line ≡ true) more → (text : List ℕ) × (new : World) × Run w more text new
+lines_print w kept [] built = ([], w, (refl, refl))
+lines_print w kept (line ∷ more) (here, built) =
+    let (first, mid, does) = line_prints w kept line here in
+    let (rest, new, run) = lines_print mid (does_kept w line first mid kept does) more built in
     (first ++ rest, new, (first, mid, rest, does, run, refl))
 
 -- what some first lines print is the beginning of what all print
 pub run_goes_on : (before more : List Line) (said : List ℕ) (w : World) → Run fresh_world before said w
-    → (rest : List ℕ) × (new : World) × Run fresh_world (before ++ more) (said ++ rest) new
-run_goes_on before more said w run =
-    let (rest, new, further) = lines_print w (run_kept fresh_world before said w fresh_is_kept run) more in
+    → AllByRecursion (λ line. is_built line ≡ true) more → (rest : List ℕ) × (new : World) × Run fresh_world (before ++ more) (said ++ rest) new
+run_goes_on before more said w run built =
+    let (rest, new, further) = lines_print w (run_kept fresh_world before said w fresh_is_kept run) more built in
     (rest, new, run_then_run fresh_world before more said w rest new run further)
 
 -- ---- every line prints one thing
@@ -273,10 +275,10 @@ one_does w (lines.Member name kind) a b x y sound does does' = by (is_some (plac
     by : (t : Bool) → Then a x t → Then b y t → (a ≡ b) × (x ≡ y)
     by true (said, is) (said', is') = (said ∙ sym said', is ∙ sym is')
     by false (said, is) (said', is') = (said ∙ sym said', is ∙ sym is')
-one_does w (lines.Change name path moment) a b x y sound does does' = by (is_some (place_of w.members name)) does does'
+one_does w (lines.Change name (path ∷ []) moment) a b x y sound does does' = by (is_some (place_of w.members name)) does does'
   where
     Then : List ℕ → World → Bool → Type 0
-    Then text new t = MatchOption (cond t None (Some (Unknown name))) (Acts w (lines.Change name path moment) text new) (λ why. IsRefused w why text new)
+    Then text new t = MatchOption (cond t None (Some (Unknown name))) (Acts w (lines.Change name (path ∷ []) moment) text new) (λ why. IsRefused w why text new)
 
     by : (t : Bool) → Then a x t → Then b y t → (a ≡ b) × (x ≡ y)
     by true (k, m, held, named, h, wide) (k', m', held', named', h', wide') =
@@ -308,6 +310,7 @@ one_does w (lines.Show name) a b x y sound does does' = by (is_some (place_of w.
         let (same, alike) = same_named w name k k' m m' named named' in
         (one_show w m a b shows (subst (λ n. Shows w n b) (sym alike) shows'), is ∙ sym is')
     by false (said, is) (said', is') = (said ∙ sym said', is ∙ sym is')
+one_does w _ a b x y sound does does' = absurd does
 
 one_run : (w : World) (ls : List Line) (a b : List ℕ) (x y : World) → IsKept w → Run w ls a x → Run w ls b y → (a ≡ b) × (x ≡ y)
 one_run w [] a b x y kept (said, is) (said', is') = (said ∙ sym said', is ∙ sym is')
@@ -316,8 +319,6 @@ one_run w (line ∷ ls) a b x y kept (first, mid, rest, does, run, said) (first'
     let (tail, ends) = one_run mid ls rest rest' x y (does_kept w line first mid kept does) run (subst (λ v. Run v ls rest' y) (sym same) run') in
     (said ∙ (λ i. head i ++ tail i) ∙ sym said', ends)
 
--- a script has one text
-pub one_text : (bytes a b : List ℕ) → IsText bytes a → IsText bytes b → a ≡ b
-one_text bytes a b (ls, proper, (new, run)) (ls', proper', (new', run')) =
-    let same = one_script bytes ls ls' proper.script proper'.script in
-    (one_run fresh_world ls a b new new' fresh_is_kept run (subst (λ l. Run fresh_world l b new') (sym same) run')).0
+-- lines print one text
+pub one_print : (lines : List Line) (a b : List ℕ) → Prints lines a → Prints lines b → a ≡ b
+one_print lines a b (new, run) (new', run') = (one_run fresh_world lines a b new new' fresh_is_kept run run').0

@@ -1,6 +1,4 @@
-pub mod Reading
-pub mod Numbers
-pub mod Rows
+pub mod OwnRows
 pub mod Pairs
 pub mod Refusals
 pub mod Runs

@@ -18,7 +18,7 @@ use Rattle.version_vector.proofs.Insertions.{adds_version, inserted_form}
 use Rattle.win_order.specs.declared.update.Update.{Update}
 use Rattle.dfsr.specs.declared.member.Member.{Member as Held}
 use Rattle.dfsr.specs.declared.engine.Engine.{Engine}
-use Rattle.dfsr.specs.declared.line.Line.TheVariants as lines
+use Rattle.script_lang.specs.declared.line.Line.TheVariants as lines
 use Rattle.dfsr.specs.Change.{base_of, born_of, change_of, file_update, name_of, new_file, next_gvsn, uid_at}
 use Rattle.dfsr.specs.Changes.{Changes, IsFresh, IsUnchanged, made_by}
 use Rattle.dfsr.specs.Names.{names_held}
@@ -138,7 +138,7 @@ show_unknown engine w name s held =
 -- ---- `change`
 
 pub change_unknown : (engine : Engine) (w : World) (name path : List ℕ) (moment : ℕ) → Stands engine w → place_held engine.members.items name ≡ None
-    → Does w (lines.Change name path moment) (printed (refusal_words (Unknown name))) w
+    → Does w (lines.Change name (path ∷ []) moment) (printed (refusal_words (Unknown name))) w
 change_unknown engine w name path moment s held =
     let place : place_of w.members name ≡ None = sym (place_same w.all _ w.members name s.members) ∙ held in
     refused_unless _ _ (Unknown name) _ (ap is_some place) (refl, refl)
@@ -251,7 +251,7 @@ vector_more set vector g v = record {
 
 pub change_known : (engine : Engine) (w : World) (name path : List ℕ) (moment k : ℕ) (h h' : Held) (m : Member) → Stands engine w → place_held engine.members.items name ≡ Some k
     → slice_get w.members k ≡ Some m → MemberStands w.all h m → Changes h h' (database_of (k + 1)) path moment
-    → Does w (lines.Change name path moment) (printed (change_words name h.next)) (after_change w k m path (change_of k m path moment (held_at k m path h.records.items)))
+    → Does w (lines.Change name (path ∷ []) moment) (printed (change_words name h.next)) (after_change w k m path (change_of k m path moment (held_at k m path h.records.items)))
 change_known engine w name path moment k h h' m s held at stands c =
     let place : place_of w.members name ≡ Some k = sym (place_same w.all _ w.members name s.members) ∙ held in
     let found = held_at k m path h.records.items in
@@ -266,7 +266,7 @@ change_known engine w name path moment k h h' m s held at stands c =
 
 pub change_too_wide : (engine : Engine) (w : World) (name path : List ℕ) (moment k count : ℕ) (h : Held) (m : Member) → Stands engine w → place_held engine.members.items name ≡ Some k
     → slice_get w.members k ≡ Some m → MemberStands w.all h m → IsTooLong (errors.VectorFull count) (plus (covers h.vector) (record { db = database_of (k + 1); version = h.next }))
-    → Does w (lines.Change name path moment) (printed (refusal_words (VectorFull count))) w
+    → Does w (lines.Change name (path ∷ []) moment) (printed (refusal_words (VectorFull count))) w
 change_too_wide engine w name path moment k count h m s held at stands long =
     let place : place_of w.members name ≡ Some k = sym (place_same w.all _ w.members name s.members) ∙ held in
     let found = held_at k m path h.records.items in
@@ -278,7 +278,7 @@ change_too_wide engine w name path moment k count h m s held at stands long =
 
 pub change_done : (old new : Engine) (w : World) (name path : List ℕ) (moment k db : ℕ) (h h' : Held) → Stands old w → place_held old.members.items name ≡ Some k → slice_get old.members.items k ≡ Some h
     → db ≡ database_of (k + 1) → Changes h h' db path moment → new.members.items ≡ set old.members.items k h'
-    → (world : World) × Does w (lines.Change name path moment) (printed (change_words name h.next)) world × Stands new world
+    → (world : World) × Does w (lines.Change name (path ∷ []) moment) (printed (change_words name h.next)) world × Stands new world
 change_done old new w name path moment k db h h' s held at own c is =
     let (m, at', stands) = zip_at (MemberStands w.all) old.members.items w.members k h s.members at in
     let changes = subst (λ d. Changes h h' d path moment) own c in (
@@ -289,7 +289,7 @@ change_done old new w name path moment k db h h' s held at own c is =
 
 pub change_cut : (old new : Engine) (w : World) (name path : List ℕ) (moment k db count : ℕ) (h h' : Held) → Stands old w → place_held old.members.items name ≡ Some k → slice_get old.members.items k ≡ Some h
     → db ≡ database_of (k + 1) → IsTooLong (errors.VectorFull count) (plus (covers h.vector) (record { db = db; version = h.next })) → IsUnchanged h h' → new.members.items ≡ set old.members.items k h'
-    → (world : World) × Does w (lines.Change name path moment) (printed (refusal_words (VectorFull count))) world × Stands new world
+    → (world : World) × Does w (lines.Change name (path ∷ []) moment) (printed (refusal_words (VectorFull count))) world × Stands new world
 change_cut old new w name path moment k db count h h' s held at own long c is =
     let (m, at', stands) = zip_at (MemberStands w.all) old.members.items w.members k h s.members at in
     let wide = subst (λ d. IsTooLong (errors.VectorFull count) (plus (covers h.vector) (record { db = d; version = h.next }))) own long in

@@ -1,6 +1,6 @@
 -- Runs of lines, one after the other.
 use Rattle.std.proofs.Common.{ℕ, List, [], ◌∷◌, ◌++◌, refl, sym, ap, ◌∙◌, subst, append-nil, append_assoc}
-use Rattle.dfsr.specs.declared.line.Line.{Line}
+use Rattle.script_lang.specs.declared.line.Line.{Line}
 use Rattle.dfsr.specs.World.{World}
 use Rattle.dfsr.specs.Text.{Does, Run}
 

@@ -1,20 +1,25 @@
 -- What a sink took of the text of some first lines.
-use Rattle.std.proofs.Common.{◌≡◌, ◌≤◌, ◌+◌, ℕ, List, [], ◌∷◌, ◌++◌, length, take, drop, sym, ap, ◌∙◌, subst, append_assoc, take-append-drop}
+use Rattle.std.proofs.Common.{◌≡◌, ◌≤◌, inr, ◌+◌, ℕ, true, List, [], ◌∷◌, ◌++◌, length, take, drop, refl, sym, ap, ◌∙◌, subst, append_assoc, take-append-drop}
+use Rattle.std.specs.Prelude.{All}
 use Rattle.std.proofs.lemmas.List.{take_all}
+use Rattle.std.proofs.lemmas.List.Elements.{All-drop, All-weaker, recursion_from_All}
 use Rattle.std.specs.declared.option.Option.{Option}
 use Rattle.frs_io.specs.Told.{HandsOn, Takes, TakesSome}
 use Rattle.frs_io.proofs.Told.{Takes-TakesSome, Takes-trans, TakesSome-append, TakesSome-of_Takes}
-use Rattle.dfsr.specs.declared.line.Line.{Line}
-use Rattle.dfsr.specs.Answers.{PrintsAll, PrintsSome}
+use Rattle.script_lang.specs.declared.line.Line.{Line}
+use Rattle.dfsr.specs.Answers.{PrintsAll, PrintsSome, WritesSome}
+use Rattle.dfsr.specs.Built.{IsOwnLine, is_built}
+use Rattle.dfsr.specs.Script.{IsFirstBad, bad_line}
 use Rattle.dfsr.specs.Text.{Does, Run}
 use Rattle.dfsr.specs.World.{World, fresh_world}
 use Rattle.dfsr.proofs.Lasting.{run_goes_on}
 use Rattle.dfsr.proofs.Runs.{run_then_does}
 
 -- some of what the first lines print is some of what all print
-pub some_of_all : (lines : List Line) (i : ℕ) (old new : Option (List ℕ)) (said : List ℕ) (w : World) → Run fresh_world (take i lines) said w → TakesSome old new said → PrintsSome lines old new
-some_of_all lines i old new said w run some =
-    let (rest, last, whole) = run_goes_on (take i lines) (drop i lines) said w run in
+pub some_of_all : (lines : List Line) (i : ℕ) (old new : Option (List ℕ)) (said : List ℕ) (w : World) → All IsOwnLine lines → Run fresh_world (take i lines) said w → TakesSome old new said → PrintsSome lines old new
+some_of_all lines i old new said w own run some =
+    let built = All-weaker IsOwnLine (λ line. is_built line ≡ true) (λ line o. o.built) (drop i lines) (All-drop IsOwnLine i lines own) in
+    let (rest, last, whole) = run_goes_on (take i lines) (drop i lines) said w run (recursion_from_All (λ line. is_built line ≡ true) (drop i lines) built) in
     (said ++ rest, (last, subst (λ ls. Run fresh_world ls (said ++ rest) last) (take-append-drop i lines) whole), TakesSome-append old new said rest some)
 
 -- the front of what was said is some of it
@@ -49,3 +54,7 @@ pub all_taken : (lines : List Line) (i : ℕ) (old mid new : Option (List ℕ)) 
     → Takes old mid front → said ≡ front ++ pending → Takes mid new pending → PrintsAll lines old new
 all_taken lines i old mid new said front pending w past run takes split taken =
     (said, (w, subst (λ ls. Run fresh_world ls said w) (take_all i lines past) run), subst (Takes old new) (sym split) (Takes-trans old mid new front pending takes taken))
+
+-- a beginning of the line that names the first bad row is one of what is to be written
+pub bad_some : (bytes : List ℕ) (number : ℕ) (old new : Option (List ℕ)) → length bytes ≤ 16777216 → IsFirstBad bytes number → TakesSome old new (bad_line number) → WritesSome bytes old new
+bad_some bytes number old new within first some = (bad_line number, inr (number, record { within = within; first = first }, refl), some)

@@ -3,16 +3,17 @@ use Rattle.std.specs.Prelude.{◌≡◌, ◌⊎◌, ◌↔◌, ◌+◌, ℕ, Boo
 use Rattle.frs_base.specs.Identifiers.{database_of}
 use Rattle.frs_base.specs.declared.version.Gvsn.{Gvsn}
 use Rattle.win_order.specs.declared.update.Update.{Update}
-use Rattle.dfsr.specs.declared.line.Line.{Line}
-use Rattle.dfsr.specs.Answers.{IsBad, IsProper, IsText, IsTooLarge}
+use Rattle.script_lang.specs.declared.line.Line.{Line}
+use Rattle.dfsr.specs.Answers.{IsAnswer, IsBad, IsProper, IsTooLarge}
+use Rattle.dfsr.specs.Built.{is_built}
 use Rattle.dfsr.specs.Text.{Does, Run}
 use Rattle.dfsr.specs.Records.{Covered, In, IsWinner, Lists, both}
 use Rattle.dfsr.specs.World.{Member, World, fresh_world}
 
--- each line prints something and leads on, in every world that a run reaches
+-- each line that is built prints something and leads on, in every world that a run reaches
 abbrev pub EveryLinePrints : Type 0
 EveryLinePrints = (before : List Line) (said : List ℕ) (w : World) → Run fresh_world before said w
-    → (line : Line) → (text : List ℕ) × (new : World) × Does w line text new
+    → (line : Line) → is_built line ≡ true → (text : List ℕ) × (new : World) × Does w line text new
 
 -- ---- winners
 
@@ -45,15 +46,21 @@ abbrev pub StaysCovered : Type 0
 StaysCovered = (w : World) (more : List Line) (said : List ℕ) (new : World) → Run w more said new
     → (k : ℕ) (m : Member) → slice_get w.members k ≡ Some m → (n : Member) × (slice_get new.members k ≡ Some n) × Lasts m n
 
--- a script has one text
+-- ---- bytes
+
+-- bytes have one row that is named as the first outside the grammar
+abbrev pub BadLinesAreOne : Type 0
+BadLinesAreOne = (bytes : List ℕ) (number other : ℕ) → IsBad bytes number → IsBad bytes other → number ≡ other
+
+-- one text is to be written of bytes: the text of a script, or the line that names the first row outside the grammar
 abbrev pub OneText : Type 0
-OneText = (bytes a b : List ℕ) → IsText bytes a → IsText bytes b → a ≡ b
+OneText = (bytes a b : List ℕ) → IsAnswer bytes a → IsAnswer bytes b → a ≡ b
 
 -- the causes of the statuses 0, 3 and 8 exclude each other
 pub record CausesDiffer (bytes : List ℕ) : Type 0 where
-  pub proper_bad : (lines : List Line) → IsProper bytes lines → IsBad bytes → ⊥
+  pub proper_bad : (lines : List Line) (number : ℕ) → IsProper bytes lines → IsBad bytes number → ⊥
   pub proper_large : (lines : List Line) → IsProper bytes lines → IsTooLarge bytes → ⊥
-  pub bad_large : IsBad bytes → IsTooLarge bytes → ⊥
+  pub bad_large : (number : ℕ) → IsBad bytes number → IsTooLarge bytes → ⊥
 
 -- of all bytes
 abbrev pub AllCausesDiffer : Type 0

@@ -1,4 +1,5 @@
-pub mod Grammar
+pub mod Built
+pub mod Script
 pub mod Records
 pub mod World
 pub mod Printed
@@ -9,7 +10,6 @@ pub mod Putting
 pub mod Text
 pub mod Answers
 pub mod Codes
-pub mod Reading
 pub mod Names
 pub mod Standing
 pub mod Laws

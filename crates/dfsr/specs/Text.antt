@@ -4,8 +4,8 @@ use Rattle.version_vector.specs.Versions.{IsCanonical, covers}
 use Rattle.version_vector.specs.declared.interval.Interval.{Interval}
 use Rattle.frs_base.specs.declared.version.Gvsn.{Gvsn}
 use Rattle.win_order.specs.declared.update.Update.{Update}
-use Rattle.dfsr.specs.declared.line.Line.{Line}
-use Rattle.dfsr.specs.declared.line.Line.TheVariants as lines
+use Rattle.script_lang.specs.declared.line.Line.{Line}
+use Rattle.script_lang.specs.declared.line.Line.TheVariants as lines
 use Rattle.dfsr.specs.Records.{Covered, IsAdopted, IsHeld, IsWinner, Lists, both, plus}
 use Rattle.dfsr.specs.World.{Member, World, IsNamed, fresh_member, fresh_world, names_of, place_of, with_member}
 use Rattle.dfsr.specs.Change.{change_of, new_file, next_gvsn, uid_at}
@@ -38,11 +38,12 @@ IsRefused w why text new = (text ≡ printed (refusal_words why)) × (new ≡ w)
 -- the first refusal that applies to a line, as far as names tell
 abbrev pub first_refusal : World → Line → Option Refusal
 first_refusal w (lines.Member name kind) = if is_some (place_of w.members name) then Some (Exists name) else None
-first_refusal w (lines.Change name path moment) = if is_some (place_of w.members name) then None else Some (Unknown name)
+first_refusal w (lines.Change name (path ∷ []) moment) = if is_some (place_of w.members name) then None else Some (Unknown name)
 first_refusal w (lines.Pull name partner) =
     if is_some (place_of w.members name) then (if is_some (place_of w.members partner) then (if bytes_eq name partner then Some Itself else None) else Some (Unknown partner))
     else Some (Unknown name)
 first_refusal w (lines.Show name) = if is_some (place_of w.members name) then None else Some (Unknown name)
+first_refusal w _ = None
 
 -- ---- vectors
 
@@ -83,10 +84,10 @@ after_pull w k m n = record w { members = slice_set w.members k (record m { fini
 abbrev pub pull_words : ℕ → List (List ℕ)
 pull_words count = codes "pulled" ∷ decimal count ∷ []
 
--- a line that isn't refused by names prints this text and leaves this world
+-- a line that isn't refused by names prints this text and leaves this world; one that isn't built does nothing
 abbrev pub Acts : World → Line → List ℕ → World → Type 0
 Acts w (lines.Member name kind) text new = (text ≡ printed (codes "ok" ∷ [])) × (new ≡ with_member w (fresh_member name kind))
-Acts w (lines.Change name path moment) text new =
+Acts w (lines.Change name (path ∷ []) moment) text new =
     (k : ℕ) × (m : Member) × (held : Option Update) × IsNamed w name k m × IsHeld (Covered w.all m.known) (uid_at k m path) held
     × Widens w (plus m.known (next_gvsn k m))
     ((text ≡ printed (change_words name m.next)) × (new ≡ after_change w k m path (change_of k m path moment held))) text new
@@ -94,6 +95,7 @@ Acts w (lines.Pull name partner) text new =
     (k : ℕ) × (m : Member) × (j : ℕ) × (n : Member) × (adopted : List Update) × IsNamed w name k m × IsNamed w partner j n × Lists (IsAdopted w.all m.known n.known) adopted
     × Widens w (both m.known n.known) ((text ≡ printed (pull_words (length adopted))) × (new ≡ after_pull w k m n)) text new
 Acts w (lines.Show name) text new = (k : ℕ) × (m : Member) × IsNamed w name k m × Shows w m text × (new ≡ w)
+Acts w _ text new = ⊥
 
 -- a line prints its first refusal and changes nothing, or acts
 abbrev pub Does : World → Line → List ℕ → World → Type 0

@@ -6,10 +6,10 @@ ghost use Rattle.dfsr.specs.Names.{names_held};
 ghost use Rattle.dfsr.specs.Text.{Exists, Itself, Unknown, VectorFull, change_words, pull_words, refusal_words};
 ghost use Rattle.version_vector.specs.Versions.{IsCanonical};
 
-use crate::line::Line;
 use crate::member::Member;
 use crate::text::{record_text, vector_text};
 use frs_base::{Bytes, MemberKind, Name, database_of};
+use script_lang::Line;
 use std::alloc::{AllocError, Global};
 use version_vector::{Vector, VectorError};
 
@@ -109,11 +109,12 @@ fn place_of(members: &[Member], name: &[u8]) -> Option<usize>
 
 impl Engine {
     ghost use Rattle.std.specs.Prelude.{◌+◌, ℕ, OnOk};
-    ghost use Rattle.dfsr.specs.Grammar.{IsLine};
+    ghost use Rattle.script_lang.specs.Grammar.{IsLine};
+    ghost use Rattle.dfsr.specs.Built.{IsOwnLine};
     ghost use Rattle.dfsr.specs.Standing.{HasRoom, IsWithin, Stands};
     ghost use Rattle.dfsr.specs.Text.{Does};
     ghost use Rattle.dfsr.specs.World.{World};
-    ghost use Rattle.dfsr.specs.declared.line.Line.{Line};
+    ghost use Rattle.script_lang.specs.declared.line.Line.{Line};
 
     /// An engine without members.
     pub fn new(alloc: Global) -> Engine
@@ -156,9 +157,9 @@ impl Engine {
         path: &Name,
         moment: u64,
     ) -> Result<String, AllocError>
-        requires line { IsLine (Line.Change name.now path.now moment) }
+        requires line { IsLine (Line.Change name.now (path.now ∷ []) moment) }
         requires room { HasRoom self.old }
-        ensures ok { (w : World) → Stands self.old w → IfOk result (λ text. (new : World) × Does w (Line.Change name.now path.now moment) (string_bytes text) new × Stands self.new new) }
+        ensures ok { (w : World) → Stands self.old w → IfOk result (λ text. (new : World) × Does w (Line.Change name.now (path.now ∷ []) moment) (string_bytes text) new × Stands self.new new) }
         ensures within { (n : ℕ) → IsWithin n self.old → OnOk result (IsWithin (n + 1) self.new) }
     {
         let text = text_of(name.as_slice());
@@ -200,16 +201,20 @@ impl Engine {
 
     /// Does a line, and gives what it prints.
     pub fn run(&mut self, alloc: Global, line: &Line) -> Result<String, AllocError>
-        requires line { IsLine line.now }
+        requires line { IsOwnLine line.now }
         requires room { HasRoom self.old }
         ensures ok { (w : World) → Stands self.old w → IfOk result (λ text. (new : World) × Does w line.now (string_bytes text) new × Stands self.new new) }
         ensures within { (n : ℕ) → IsWithin n self.old → OnOk result (IsWithin (n + 1) self.new) }
     {
         match line {
             Line::Member { name, kind } => self.add(alloc, name, *kind),
-            Line::Change { name, path, moment } => self.change(alloc, name, path, *moment),
-            Line::Pull { name, partner } => self.pull(alloc, name, partner),
+            Line::Change { name, path, moment } => match path.as_slice() {
+                [file] => self.change(alloc, name, file, *moment),
+                _ => unreachable!(),
+            },
+            Line::Pull { name, other } => self.pull(alloc, name, other),
             Line::Show { name } => self.show(alloc, name),
+            _ => unreachable!(),
         }
     }
 }

@@ -1,8 +1,8 @@
 // What holds of every script, each law the contract of a function that does nothing.
-ghost use Rattle.dfsr.specs.Laws.{AllCausesDiffer, EqualRecords, EveryLinePrints, OneText, RecordedIsCovered, StaysCovered, WinnersJoin};
+ghost use Rattle.dfsr.specs.Laws.{AllCausesDiffer, BadLinesAreOne, EqualRecords, EveryLinePrints, OneText, RecordedIsCovered, StaysCovered, WinnersJoin};
 
-/// In every world that a run reaches, each line prints something and leads on. So a beginning of
-/// what some first lines print is a beginning of a whole text.
+/// In every world that a run reaches, each line that is built prints something and leads on. So a
+/// beginning of what some first lines print is a beginning of a whole text.
 pub fn every_line_prints()
     ensures { EveryLinePrints }
 {}
@@ -29,9 +29,15 @@ pub fn stays_covered()
     ensures { StaysCovered }
 {}
 
-/// A script has one text, so that the text of the bytes read says wholly what was to be written.
+/// Of the bytes read one text is to be written, that of a script or the line that names the first
+/// row outside the grammar, so that it says wholly what was to be written.
 pub fn one_text()
     ensures { OneText }
+{}
+
+/// Bytes have one row that is named as the first outside the grammar.
+pub fn bad_lines_are_one()
+    ensures { BadLinesAreOne }
 {}
 
 /// Of the causes of the statuses 0, 3 and 8 no bytes have two, so that each comes exactly where

@@ -3,13 +3,13 @@
 //! Read [`script::script_main`] first: from the bytes of a script to the bytes that it writes.
 #![tactic(auto)]
 
+pub mod built;
 pub mod change;
 pub mod engine;
 pub mod laws;
-pub mod line;
 pub mod member;
-pub mod parse;
 pub mod pull;
+pub mod reading;
 pub mod records;
 pub mod script;
 pub mod status;
@@ -40,9 +40,10 @@ Empty lines and lines that begin with # print nothing.
 
   --help, --version        print this text, or the version
 
-Statuses: 0 done; 2 other words; 3 a line outside the grammar; 4 the input
-failed; 5 the output failed; 8 more than 1,048,576 bytes or 8 member lines;
-9 out of memory. After 2, 3, 4 and 8 nothing was written.
+Statuses: 0 done; 2 other words; 3 a line outside the grammar, whose number
+is then written; 4 the input failed; 5 the output failed; 8 more than
+16,777,216 bytes or 8 member lines; 9 out of memory. After 2, 4 and 8 nothing
+was written.
 ";
 
 const VERSION: &str = "dfsr 0.1.0\n";

@@ -2,18 +2,20 @@
 ghost use Rattle.std.specs.Prelude.{◌≡◌, ◌⊎◌, ◌↔◌, ◌≤◌, [], ◌∷◌, All, IfSome, IsTrue, OnErr, OnOk, codes, count_by, map, string_bytes};
 ghost use Rattle.std.specs.Io.KnownBytes.{IsAtEnd};
 ghost use Rattle.frs_io.specs.Causes.{HasWriteCause, Rose};
-ghost use Rattle.dfsr.specs.Answers.{IsBad, IsTooLarge, PrintsAll, PrintsSome, WritesAll, WritesSome, makes_member};
-ghost use Rattle.dfsr.specs.Grammar.{IsLine};
+ghost use Rattle.frs_io.specs.Told.{Takes, TakesSome};
+ghost use Rattle.dfsr.specs.Answers.{IsTooLarge, PrintsAll, PrintsSome, WritesAll, WritesBadLine, WritesSome, makes_member};
+ghost use Rattle.dfsr.specs.Built.{IsOwnLine};
+ghost use Rattle.dfsr.specs.Script.{bad_line};
 
 use crate::engine::Engine;
-use crate::line::Line;
-use crate::parse::{ParseError, parse};
+use crate::reading::read_lines;
 use crate::status::Status;
 use frs_io::{ReadError, Sink, Source, WriteError, hand_on, read_to_limit, write_all};
+use script_lang::{Line, ParseError};
 use std::alloc::Global;
 
 /// The most bytes that a script has.
-const BYTES: usize = 1_048_576;
+const BYTES: usize = 16_777_216;
 
 /// The most `member` lines that a script has.
 const MEMBERS: usize = 8;
@@ -27,18 +29,21 @@ fn are_script_words(words: &[String]) -> bool
     }
 }
 
+fn makes_member(line: &Line) -> bool
+    ensures { result ≡ makes_member line.now }
+{
+    matches!(line, Line::Member { .. })
+}
+
 fn member_count(lines: &[Line]) -> usize
     ensures { result ≡ count_by makes_member lines.now }
 {
-    lines
-        .iter()
-        .filter(|line| matches!(line, Line::Member { .. }))
-        .count()
+    lines.iter().filter(|line| makes_member(line)).count()
 }
 
 /// Does the lines, and writes what they print in pieces.
 fn run_lines<K: Sink>(alloc: Global, lines: &[Line], out: &mut K) -> Result<(), WriteError>
-    requires { All IsLine lines.now }
+    requires { All IsOwnLine lines.now }
     ensures ok { OnOk result (PrintsAll lines.now (K.taken out.old) (K.taken out.new)) }
     ensures err { OnErr result (PrintsSome lines.now (K.taken out.old) (K.taken out.new)) }
     ensures cause { HasWriteCause (K.faults out.old) (K.faults out.new) result }
@@ -53,11 +58,22 @@ fn run_lines<K: Sink>(alloc: Global, lines: &[Line], out: &mut K) -> Result<(), 
     write_all(alloc, out, pending.as_bytes())
 }
 
+/// Writes the line that names the first row outside the grammar.
+fn write_bad_line<K: Sink>(alloc: Global, number: u64, out: &mut K) -> Result<(), WriteError>
+    ensures ok { OnOk result (Takes (K.taken out.old) (K.taken out.new) (bad_line number)) }
+    ensures err { OnErr result (TakesSome (K.taken out.old) (K.taken out.new) (bad_line number)) }
+    ensures cause { HasWriteCause (K.faults out.old) (K.faults out.new) result }
+{
+    let text = format!(in alloc; "bad line {number}\n")?;
+    write_all(alloc, out, text.as_bytes())
+}
+
 /// Reads a script to its end, does its lines and writes what they print.
 ///
 /// `words` are those of the command line behind the program's name. A script that is too large or
-/// outside the grammar does nothing and writes nothing: bytes are counted before rows are looked
-/// at, and rows before members are counted.
+/// outside the grammar does nothing. One outside the grammar writes `bad line` and the number of
+/// the first row that is, empty rows and comments counted. Bytes are counted before rows are
+/// looked at, and rows before members are counted.
 pub fn script_main<S: Source, K: Sink>(
     alloc: Global,
     words: &[String],
@@ -72,17 +88,19 @@ pub fn script_main<S: Source, K: Sink>(
     ensures end { result ≡ Status.Done → IsAtEnd (S.left input.new) }
     ensures done { result ≡ Status.Done → IfSome (S.left input.old) (λ bytes. WritesAll bytes (K.taken out.old) (K.taken out.new)) }
 
-    // When it is cut short, what was written is a beginning of that text, if only nothing.
+    // Where a row is outside the grammar, the line that names the first one was written.
+    ensures bad { result ≡ Status.ScriptBad → IfSome (S.left input.old) (λ bytes. WritesBadLine bytes (K.taken out.old) (K.taken out.new)) }
+
+    // When it is cut short, what was written is a beginning of that text or line, if only nothing.
     ensures cut_short { (result ≡ Status.WriteFault) → IfSome (S.left input.old) (λ bytes. WritesSome bytes (K.taken out.old) (K.taken out.new)) }
     ensures short_of_memory { (result ≡ Status.Memory) → IfSome (S.left input.old) (λ bytes.
         (K.taken out.new ≡ K.taken out.old) ⊎ WritesSome bytes (K.taken out.old) (K.taken out.new)) }
 
     // The causes of the other answers, after which nothing was written.
-    ensures bad { result ≡ Status.ScriptBad → IfSome (S.left input.old) IsBad }
     ensures large { result ≡ Status.TooLarge → IfSome (S.left input.old) IsTooLarge }
     ensures read_fault { result ≡ Status.ReadFault → Rose (S.faults input.old) (S.faults input.new) }
     ensures write_fault { result ≡ Status.WriteFault → Rose (K.faults out.old) (K.faults out.new) }
-    ensures unwritten { (result ≡ Status.Usage) ⊎ (result ≡ Status.ScriptBad) ⊎ (result ≡ Status.ReadFault) ⊎ (result ≡ Status.TooLarge)
+    ensures unwritten { (result ≡ Status.Usage) ⊎ (result ≡ Status.ReadFault) ⊎ (result ≡ Status.TooLarge)
         → K.taken out.new ≡ K.taken out.old }
 
     // No count falls.
@@ -98,9 +116,13 @@ pub fn script_main<S: Source, K: Sink>(
         Err(ReadError::TooLong) => return Status::TooLarge,
         Err(ReadError::Memory) => return Status::Memory,
     };
-    let lines = match parse(alloc, &bytes) {
+    let lines = match read_lines(alloc, &bytes) {
         Ok(lines) => lines,
-        Err(ParseError::Bad) => return Status::ScriptBad,
+        Err(ParseError::LineBad { number }) => match write_bad_line(alloc, number, out) {
+            Ok(()) => return Status::ScriptBad,
+            Err(WriteError::Failed) => return Status::WriteFault,
+            Err(WriteError::Memory) => return Status::Memory,
+        },
         Err(ParseError::Memory) => return Status::Memory,
     };
     if member_count(&lines) > MEMBERS {

@@ -1,1 +1,4 @@
 mod Made
+pub mod Cases
+pub mod Shown
+pub mod Parents

@@ -1,11 +1,10 @@
 -- What a journal record makes, by cases.
-use Rattle.std.proofs.Common.{◌≡◌, ℕ, Bool, true, false, cond, ltb, List, Option, Some, None, refl, sym, ap, ◌∙◌}
+use Rattle.std.proofs.Common.{◌≡◌, ℕ, Bool, true, false, ltb, List, Option, Some, None, refl, sym, ap, ◌∙◌}
 use Rattle.std.specs.Prelude.{option_map, if◌then◌else◌}
 use Rattle.frs_base.specs.declared.version.Gvsn.{Gvsn}
 use Rattle.win_order.specs.declared.update.Update.{Update}
 use Rattle.vol_state.specs.declared.object.Object.{Object}
 use Rattle.vol_state.specs.declared.record.VolRecord.{VolRecord}
-use Rattle.vol_state.specs.State.{State}
 use Rattle.vol_state.specs.Journal.{record_at}
 use Rattle.vol_state.specs.Maps.{Maps, maps_of}
 use Rattle.name_rules.specs.Recorded.{base_fence, held_of, is_deletion, object_update, tombstone, recorded_by, recorded_of, made_of, MakesOwnVersion, PassesReplicas}

@@ -75,7 +75,7 @@ scripts_have_one_list bytes lines others is is_too =
 -- ---- a script has no bad row
 
 -- a row that passes is among the passed
-passed_row : {X : Type 0} (P : X → Type 0) (p : List ℕ → Bool) (f : X → List ℕ) (rs : List (List ℕ)) (xs : List X) (k : ℕ)
+pub passed_row : {X : Type 0} (P : X → Type 0) (p : List ℕ → Bool) (f : X → List ℕ) (rs : List (List ℕ)) (xs : List X) (k : ℕ)
     → AllByRecursion P xs → filter p rs ≡ map f xs → k < length rs → p (get_or rs k []) ≡ true → (x : X) × P x × (get_or rs k [] ≡ f x)
 passed_row P p f [] xs k each is within passes = absurd (omega arith)
 passed_row {X = X} P p f (r ∷ rs) xs k each is within passes = by (p r) refl xs each is k within passes (λ ys j. passed_row P p f rs ys j)

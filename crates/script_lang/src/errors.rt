@@ -1,5 +1,6 @@
 // Why bytes gave no lines.
-ghost use Rattle.std.specs.Prelude.{◌≡◌};
+ghost use Rattle.std.specs.Prelude.{◌≡◌, Some};
+ghost use Rattle.script_lang.specs.Refusals.{error_text, row_error_text};
 ghost use Rattle.script_lang.specs.declared.errors.ParseError.TheVariants as parsing;
 ghost use Rattle.script_lang.specs.declared.errors.RowError.TheVariants as row;
 
@@ -20,6 +21,8 @@ pub enum ParseError {
 }
 
 impl fmt::Display for ParseError {
+    ghost output = { λ e. Some (error_text e) };
+
     fn fmt<W: fmt::Write>(&self, f: &mut fmt::Formatter<W>) -> fmt::Result {
         match self {
             ParseError::LineBad { number } => write!(f, "bad line {number}"),
@@ -56,6 +59,8 @@ pub enum RowError {
 }
 
 impl fmt::Display for RowError {
+    ghost output = { λ e. Some (row_error_text e) };
+
     fn fmt<W: fmt::Write>(&self, f: &mut fmt::Formatter<W>) -> fmt::Result {
         match self {
             RowError::Bad => write!(f, "outside the grammar"),

@@ -5,7 +5,7 @@ ghost use Rattle.vol_state.specs.Conditions.{root_uid};
 ghost use Rattle.vol_state.specs.Maps.{maps_of};
 ghost use Rattle.name_rules.specs.Recorded.{attributes_of, base_fence, clock_of, created_of, fence_of, hash_of, is_deletion, object_update, parent_uid, recorded_change, recorded_deletion, recorded_of, tombstone};
 
-use frs_base::{Gvsn, Kind, MemberKind, Name, Phase, Sum, Uid, Guid, content_set};
+use frs_base::{Guid, Gvsn, Kind, MemberKind, Name, Phase, Sum, Uid, content_set};
 use std::alloc::{AllocError, Global};
 use vol_state::{Object, VolRecord, Volume};
 use win_order::Update;
@@ -154,12 +154,7 @@ fn object_update(
 }
 
 /// The held record, no longer present.
-fn tombstone(
-    alloc: Global,
-    own: Guid,
-    mark: &Mark,
-    held: &Update,
-) -> Result<Update, AllocError>
+fn tombstone(alloc: Global, own: Guid, mark: &Mark, held: &Update) -> Result<Update, AllocError>
     requires { held.now.clock < 2 ^ 62 }
     ensures { IfOk result (λ u. u ≡ tombstone own mark.now.base mark.now.usn mark.now.moment held.now) }
 {

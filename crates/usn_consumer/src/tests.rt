@@ -3,9 +3,7 @@ ghost use Rattle.std.specs.Prelude.{◌≡◌};
 ghost use Rattle.usn_consumer.specs.Next.{have_clocks};
 
 use super::*;
-use frs_base::{
-    Bytes, Guid, Gvsn, Kind, MemberKind, Name, Sum, Uid, content_set, database_of,
-};
+use frs_base::{Bytes, Guid, Gvsn, Kind, MemberKind, Name, Sum, Uid, content_set, database_of};
 use record_db::Book;
 use std::alloc::Global;
 use std::process::Abort;
@@ -259,7 +257,8 @@ fn try_rows(rt: &impl Abort, alloc: Global, rows: &str) -> Result<(), Fail> {
 }
 
 /// Puts, directories and moves, in each phase and of each kind of member.
-const CHANGES: &str = "put 0 x | plain initial 9 | none | 100 -> make 1:9 1:9 f live root x 1 100 100
+const CHANGES: &str =
+    "put 0 x | plain initial 9 | none | 100 -> make 1:9 1:9 f live root x 1 100 100
 put 0 x | primary initial 9 | none | 100 -> make 1:9 1:9 f live root x 2 100 100
 put 0 x | plain normal 9 | none | 100 -> make 1:9 1:9 f live root x 3 100 100
 put 0 x | primary normal 9 | none | 100 -> make 1:9 1:9 f live root x 3 100 100
@@ -279,7 +278,8 @@ put 0 x; remove 1 | plain initial 9 | none | 100 -> skip
 put 0 x; park 1 | plain initial 9 | none | 100 -> skip";
 
 /// Fences never fall, clocks rise, and the create time stays.
-const OVER_A_RECORD: &str = "put 0 x; over 1 | plain initial 10 | 1 9 1 100 50 live | 90 -> make 1:9 1:10 f live root x 1 101 50
+const OVER_A_RECORD: &str =
+    "put 0 x; over 1 | plain initial 10 | 1 9 1 100 50 live | 90 -> make 1:9 1:10 f live root x 1 101 50
 put 0 x; over 1 | plain initial 10 | 1 9 1 100 50 live | 101 -> make 1:9 1:10 f live root x 1 101 50
 put 0 x; over 1 | plain initial 10 | 1 9 1 100 50 live | 102 -> make 1:9 1:10 f live root x 1 102 50
 put 0 x; over 1 | primary initial 10 | 1 9 1 100 50 live | 90 -> make 1:9 1:10 f live root x 2 101 50
@@ -288,7 +288,8 @@ put 0 x | plain initial 9 | 1 9 2 100 50 gone | 90 -> make 1:9 1:9 f live root x
 put 0 x | plain initial 9 | 1 20 3 500 400 live | 100 -> make 1:9 1:9 f live root x 1 100 100";
 
 /// Removals: of what is held, of what never was, and of what is gone already.
-const REMOVALS: &str = "put 0 x; remove 1 | plain initial 10 | 1 9 1 100 50 live | 90 -> make 1:9 1:10 f gone root o 1 101 50
+const REMOVALS: &str =
+    "put 0 x; remove 1 | plain initial 10 | 1 9 1 100 50 live | 90 -> make 1:9 1:10 f gone root o 1 101 50
 put 0 x; remove 1 | plain normal 10 | 1 9 1 100 50 live | 900 -> make 1:9 1:10 f gone root o 3 900 50
 put 0 x; remove 1 | plain initial 10 | 1 9 3 100 50 live | 90 -> make 1:9 1:10 f gone root o 3 101 50
 put 0 x; remove 1 | plain initial 10 | none | 90 -> skip
@@ -302,7 +303,8 @@ make 20; place 1 x; over 1 | plain initial 11 | 2 20 3 500 400 live | 100 -> mak
 make 20; place 1 x; remove 1 | plain initial 11 | 2 20 3 500 400 live | 100 -> make 2:20 1:11 f gone root o 3 501 400";
 
 /// A clock of 2^62 or more is refused, where an update would be made.
-const CLOCKS: &str = "put 0 x; over 1 | plain initial 10 | 1 9 1 4611686018427387902 50 live | 100 -> make 1:9 1:10 f live root x 1 4611686018427387903 50
+const CLOCKS: &str =
+    "put 0 x; over 1 | plain initial 10 | 1 9 1 4611686018427387902 50 live | 100 -> make 1:9 1:10 f live root x 1 4611686018427387903 50
 put 0 x; over 1 | plain initial 10 | 1 9 1 4611686018427387903 50 live | 100 -> a clock of 4611686018427387904
 put 0 x; over 1 | plain initial 10 | 1 9 1 4611686018427387902 50 live | 2305843009213693951 -> make 1:9 1:10 f live root x 1 4611686018427387903 50
 put 0 x; over 1 | plain initial 10 | 1 9 1 4611686018427387903 50 live | 2305843009213693951 -> a clock of 4611686018427387904

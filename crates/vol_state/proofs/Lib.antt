@@ -1,18 +1,23 @@
-mod Climbing
-mod Finding
-mod Bounds
-mod Edits
-mod Runs
-mod Trees
-mod Tops
-mod Volumes
-mod Kept
-mod Reaching
-mod Resolving
-mod Replicas
-mod Searches
-mod Chains
-mod Walks
-mod Hinted
-mod Numbering
-mod Standing
+pub mod Climbing
+pub mod Finding
+pub mod Bounds
+pub mod Edits
+pub mod Runs
+pub mod Trees
+pub mod Tops
+pub mod Volumes
+pub mod Kept
+pub mod Reaching
+pub mod Resolving
+pub mod Replicas
+pub mod Searches
+pub mod Chains
+pub mod Walks
+pub mod Hinted
+pub mod Numbering
+pub mod Standing
+pub mod Recent
+pub mod Tabling
+pub mod Permitted
+pub mod Waying
+pub mod Resolved

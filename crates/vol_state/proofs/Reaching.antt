@@ -21,12 +21,12 @@ use Rattle.vol_state.proofs.Volumes.{find_in, both}
 abbrev pub Under : List Object → ℕ → ℕ → Type 0
 Under objects top fid = (n : ℕ) × (is_under objects n top fid ≡ true)
 
-or_true : (b : Bool) → (b || true) ≡ true
+pub or_true : (b : Bool) → (b || true) ≡ true
 or_true true = refl
 or_true false = refl
 
 -- from one step up on
-under_up : (objects : List Object) (top fid up : ℕ) → above objects fid ≡ Some up → Under objects top up → Under objects top fid
+pub under_up : (objects : List Object) (top fid up : ℕ) → above objects fid ≡ Some up → Under objects top up → Under objects top fid
 under_up objects top fid up is u = (suc u.0, ap (λ a. eqb fid top || some_is (is_under objects u.0 top) a) is ∙ ap (λ b. eqb fid top || b) u.1 ∙ or_true (eqb fid top))
 
 ends_more : (objects : List Object) (n m fid : ℕ) → ends_in objects n fid ≡ true → n ≤ m → ends_in objects m fid ≡ true

@@ -1,14 +1,12 @@
 -- A journal whose USNs run.
-use Rattle.std.proofs.Common.{◌≡◌, ◌+◌, ◌<◌, ◌&&◌, ℕ, zero, suc, Bool, true, false, eqb, List, [], ◌∷◌, ◌++◌, length, Option, Some, None, refl, ap, arith}
+use Rattle.std.proofs.Common.{◌≡◌, ◌+◌, ◌<◌, ◌&&◌, ℕ, zero, suc, Bool, true, false, eqb, List, [], ◌∷◌, ◌++◌, length, None, refl, arith}
 use Rattle.std.specs.Prelude.{slice_get}
 use Rattle.std.proofs.lemmas.Bool.Decides.{nat_tests}
-use Rattle.frs_base.specs.declared.version.Uid.{Uid}
 use Rattle.vol_state.specs.declared.record.VolRecord.{VolRecord}
-use Rattle.vol_state.specs.Journal.{RunsFrom, record_at, last_local, later_or}
-use Rattle.frs_base.specs.Versions.{same_uid}
+use Rattle.vol_state.specs.Journal.{RunsFrom, record_at}
 use Rattle.vol_state.proofs.Climbing.{differ}
 
-none_before : (low usn : ℕ) → usn < low → (rs : List VolRecord) → RunsFrom low rs → record_at rs usn ≡ None
+pub none_before : (low usn : ℕ) → usn < low → (rs : List VolRecord) → RunsFrom low rs → record_at rs usn ≡ None
 none_before low usn l [] h = refl
 none_before low usn l (r ∷ rs) h = rw (differ r.usn usn (λ e. omega (arith, l, h.0, e))) (none_before (low + 1) usn (omega (arith, l)) rs h.1)
 
@@ -22,18 +20,6 @@ at_place low (suc k) usn (r ∷ rs) h e = rw (differ r.usn usn (λ q. omega (ari
 
 pub runs_get : (usn k : ℕ) (rs : List VolRecord) → RunsFrom 9 rs → k + 9 ≡ usn → slice_get rs k ≡ record_at rs usn
 runs_get usn k rs h e = at_place 9 k usn rs h (omega (arith, e))
-
--- the last record decides, where it is one
-later_some : (r : Option ℕ) (usn n : ℕ) (b : Bool) → r ≡ Some n → later_or r usn b ≡ Some n
-later_some r usn n b e = ap (λ x. later_or x usn b) e
-
-pub last_push : (rs : List VolRecord) (r : VolRecord) (uid : Uid) → (r.local && same_uid r.uid uid) ≡ true → last_local (rs ++ r ∷ []) uid ≡ Some r.usn
-last_push [] r uid e = ap (later_or None r.usn) e
-last_push (x ∷ rs) r uid e = later_some (last_local (rs ++ r ∷ []) uid) x.usn r.usn (x.local && same_uid x.uid uid) (last_push rs r uid e)
-
-pub last_other : (rs : List VolRecord) (r : VolRecord) (uid : Uid) → (r.local && same_uid r.uid uid) ≡ false → last_local (rs ++ r ∷ []) uid ≡ last_local rs uid
-last_other [] r uid e = ap (later_or None r.usn) e
-last_other (x ∷ rs) r uid e = ap (λ l. later_or l x.usn (x.local && same_uid x.uid uid)) (last_other rs r uid e)
 
 pub run_push : (usn : ℕ) (rs : List VolRecord) (r : VolRecord) → RunsFrom usn rs → r.usn ≡ usn + length rs → RunsFrom usn (rs ++ r ∷ [])
 run_push usn [] r h e = (omega (arith, e), tt)

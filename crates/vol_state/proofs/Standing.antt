@@ -44,7 +44,7 @@ records_below : (v : State) → AreFree v → greatest (λ (r : VolRecord). r.us
 unfolding greatest_usn
 records_below v free = let h = free.usn in omega arith
 
-nobody_next : (v : State) → AreFree v → object_at v.objects v.next_fid ≡ None
+pub nobody_next : (v : State) → AreFree v → object_at v.objects v.next_fid ≡ None
 nobody_next v free = go (object_at v.objects v.next_fid) refl
   where
     go : (a : Option Object) → object_at v.objects v.next_fid ≡ a → object_at v.objects v.next_fid ≡ None

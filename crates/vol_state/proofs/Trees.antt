@@ -77,7 +77,7 @@ home_as old new None h p = tt
 home_as old new (Some place) h p = h place.0 p
 
 -- an object is left for good that has nothing beneath it
-beneath : (fid : ℕ) (b : Object) (os : List Object) → has_children os fid ≡ false → In b os → some_is (λ p. eqb p.0 fid) b.place ≡ false
+pub beneath : (fid : ℕ) (b : Object) (os : List Object) → has_children os fid ≡ false → In b os → some_is (λ p. eqb p.0 fid) b.place ≡ false
 beneath fid b [] h i = absurd i
 beneath fid b (o ∷ os) h i = go (some_is (λ p. eqb p.0 fid) o.place) refl h (beneath fid b os)
   where
@@ -85,7 +85,7 @@ beneath fid b (o ∷ os) h i = go (some_is (λ p. eqb p.0 fid) o.place) refl h (
     go true e h more = absurd (cc)
     go false e h more = by_cases i (λ is. ap (λ y. some_is (λ p. eqb p.0 fid) y.place) is ∙ e) (λ j. more h j)
 
-away : (a b : ℕ) → eqb a b ≡ false → a ≢ b
+pub away : (a b : ℕ) → eqb a b ≡ false → a ≢ b
 away a b e q = grind (arith, nat_tests)
 
 pub tree_without : (fid : ℕ) (os : List Object) → has_children os fid ≡ false → IsTree os → IsTree (without fid os)

@@ -122,7 +122,7 @@ same_names a b c h k =
     (bytes_eq-Decides (map fold_unit c) (map fold_unit a)).1 (q ∙ sym p)
 
 -- who stands under a matching name stands under the name itself
-child_meets : (parent : ℕ) (name : List ℕ) (at : ℕ) (other : List ℕ) (b : Object) → (eqb parent at && matches name other) ≡ true → is_child at other b ≡ true → is_child parent name b ≡ true
+pub child_meets : (parent : ℕ) (name : List ℕ) (at : ℕ) (other : List ℕ) (b : Object) → (eqb parent at && matches name other) ≡ true → is_child at other b ≡ true → is_child parent name b ≡ true
 child_meets parent name at other b h k = go b.place k
   where
     go : (place : Option (ℕ × List ℕ)) → some_is (λ p. eqb p.0 at && matches p.1 other) place ≡ true → some_is (λ p. eqb p.0 parent && matches p.1 name) place ≡ true
@@ -133,7 +133,7 @@ child_meets parent name at other b h k = go b.place k
         let l : eqb p.0 parent ≡ true = grind (arith, nat_tests) in
         rw l (same_names name other p.1 y w)
 
-free_of : (v : State) → IsVolume v → (fid parent : ℕ) (name : List ℕ) → none_or (λ o. eqb o.fid fid) (child v.objects parent name) ≡ true → (b : Object) → In b v.objects → is_child parent name b ≡ true → b.fid ≡ fid
+pub free_of : (v : State) → IsVolume v → (fid parent : ℕ) (name : List ℕ) → none_or (λ o. eqb o.fid fid) (child v.objects parent name) ≡ true → (b : Object) → In b v.objects → is_child parent name b ≡ true → b.fid ≡ fid
 free_of v h fid parent name e b i k = go (child v.objects parent name) refl e
   where
     go : (c : Option Object) → child v.objects parent name ≡ c → none_or (λ o. eqb o.fid fid) c ≡ true → b.fid ≡ fid
@@ -144,7 +144,7 @@ free_of v h fid parent name e b i k = go (child v.objects parent name) refl e
         let f : c.fid ≡ fid = grind (arith, nat_tests) in
         ap (λ y. y.fid) s ∙ f
 
-nobody_or : {T : Type 0} (test : T → Bool) (x : Option T) → is_some x ≡ false → none_or test x ≡ true
+pub nobody_or : {T : Type 0} (test : T → Bool) (x : Option T) → is_some x ≡ false → none_or test x ≡ true
 nobody_or test None e = refl
 nobody_or test (Some y) e = absurd (cc)
 

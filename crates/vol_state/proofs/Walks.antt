@@ -158,7 +158,7 @@ child_found objects parent name fid o t e = found_is (is_child parent name) obje
 abbrev pub has_uid : ℕ → Uid → Object → Bool
 has_uid own uid o = same_uid (uid_of own o) uid
 
-same_is : (a b : Uid) → same_uid a b ≡ true → a ≡ b
+pub same_is : (a b : Uid) → same_uid a b ≡ true → a ≡ b
 same_is a b e =
     let (d, v) = both (eqb a.db b.db) (eqb a.version b.version) e in
     let x : a.db ≡ b.db = grind (arith, nat_tests) in

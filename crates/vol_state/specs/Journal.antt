@@ -1,5 +1,5 @@
 -- What the journal says.
-use Rattle.std.specs.Prelude.{⊤, ◌≡◌, ◌+◌, ◌==◌, ◌&&◌, ℕ, Bool, if◌then◌else◌, List, [], ◌∷◌, length, Option, Some, None, find}
+use Rattle.std.specs.Prelude.{⊤, ◌≡◌, ◌+◌, ◌==◌, ◌&&◌, nat_le, ℕ, Bool, if◌then◌else◌, List, [], ◌∷◌, length, Option, Some, None, filter, find}
 use Rattle.frs_base.specs.declared.version.Uid.{Uid}
 use Rattle.frs_base.specs.Versions.{same_uid}
 use Rattle.vol_state.specs.declared.record.VolRecord.{VolRecord}
@@ -18,6 +18,10 @@ later_or None usn holds = if holds then Some usn else None
 abbrev pub last_local : List VolRecord → Uid → Option ℕ
 last_local [] uid = None
 last_local (r ∷ rs) uid = later_or (last_local rs uid) r.usn (r.local && same_uid r.uid uid)
+
+-- the USN of the last local record of a UID, among those at or past a USN
+abbrev pub pending_local : List VolRecord → Uid → ℕ → Option ℕ
+pending_local journal uid from = last_local (filter (λ r. nat_le from r.usn) journal) uid
 
 -- the USNs are usn, usn + 1 and so on
 abbrev pub RunsFrom : ℕ → List VolRecord → Type 0

@@ -1,4 +1,3 @@
-pub mod Rows
 pub mod Places
 pub mod Paths
 pub mod Tree
@@ -14,3 +13,5 @@ pub mod Laws
 pub mod Seen
 pub mod Maps
 pub mod Tables
+pub mod Ways
+pub mod Pending

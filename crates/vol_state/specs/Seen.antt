@@ -2,7 +2,6 @@
 use Rattle.std.specs.Prelude.{ℕ, ◌<◌, List, []}
 use Rattle.vol_state.specs.declared.command.VolCmd.{VolCmd}
 use Rattle.vol_state.specs.declared.object.Object.{Object}
-use Rattle.vol_state.specs.declared.record.VolRecord.{VolRecord}
 use Rattle.vol_state.specs.State.{State}
 
 -- its state, and how many commands it has room for
@@ -18,11 +17,6 @@ fresh_state own = record { own = own; objects = []; journal = []; next_fid = 1; 
 pub record Shelved : Type 0 where
   pub own : ℕ
   pub items : List Object
-  pub room : ℕ
-
--- journal records, and the room for more
-pub record Logged : Type 0 where
-  pub items : List VolRecord
   pub room : ℕ
 
 -- a command has its room

@@ -1,8 +1,6 @@
 -- The two tables of operations, over the maps of a volume: when each may be done.
-use Rattle.std.specs.Prelude.{◌≡◌, ◌≢◌, ◌⊎◌, ◌≤◌, ℕ, zero, suc, Bool, true, false, List, length, Option, Some, None}
+use Rattle.std.specs.Prelude.{◌≡◌, ◌≢◌, ◌⊎◌, ◌≤◌, ℕ, zero, suc, Bool, true, false, List, length, Some, None}
 use Rattle.frs_base.specs.Names.{matches}
-use Rattle.frs_base.specs.declared.kind.Kind.{Kind}
-use Rattle.frs_base.specs.declared.kind.Kind.TheVariants.{File, Directory}
 use Rattle.frs_base.specs.declared.version.Uid.{Uid}
 use Rattle.vol_state.specs.declared.object.Object.{Object}
 use Rattle.vol_state.specs.declared.command.VolCmd.{VolCmd}
@@ -12,6 +10,7 @@ use Rattle.vol_state.specs.Paths.{largest}
 use Rattle.vol_state.specs.State.{State, uid_of}
 use Rattle.vol_state.specs.Conditions.{is_allowed, root_uid}
 use Rattle.vol_state.specs.Valid.{IsVolume}
+use Rattle.vol_state.specs.Laws.{AreFree}
 use Rattle.vol_state.specs.Maps.{Maps, Stands}
 
 -- ---- places
@@ -94,3 +93,7 @@ IsReplica own m (Place fid parent name) = (o : Object) × IsAt m fid o × (o.pla
 -- what a command may do by the code's test it may do by the tables, over the maps that the lists stand for
 abbrev pub TestsAreTables : Type 0
 TestsAreTables = (cmd : VolCmd) (v : State) (m : Maps) → IsVolume v → Stands v m → is_allowed cmd v ≡ true → IsLocal m cmd ⊎ IsReplica v.own m cmd
+
+-- and what it may do by the tables, it may do by the code's test, where the next numbers are free
+abbrev pub TablesAreTests : Type 0
+TablesAreTests = (cmd : VolCmd) (v : State) (m : Maps) → IsVolume v → AreFree v → Stands v m → IsLocal m cmd ⊎ IsReplica v.own m cmd → is_allowed cmd v ≡ true

@@ -1,10 +1,9 @@
 // Where to look for objects. A hint may be stale: what it leads to is looked at.
 ghost use Rattle.std.specs.Prelude.{◌≡◌, ◌<◌, ◌≤◌, ◌-◌, ◌∷◌, ◌++◌, [], ℕ, IsSome, OnOk, length, take, slice_index_or, unwrap_or};
-ghost use Rattle.vol_state.specs.Rows.{items_of, room_of};
 ghost use Rattle.vol_state.specs.Hints.{AreChained, head_of, last_with, newest_after, newest_of, KeepsBut, Leads, redirected, spare_of};
 ghost use Rattle.vol_state.specs.declared.hints.Link.{Link};
 
-use crate::rows::{items, push_reserved, reserve_one};
+use frs_base::ReservedVec;
 use std::alloc::{AllocError, Global};
 use std::collections::HashMap;
 use std::marker::Model;
@@ -27,19 +26,18 @@ pub(crate) struct Link {
 #[derive(Drop)]
 pub(crate) struct Hints {
     newest: Option<HashMap<u64, usize>>,
-    links: Option<Vec<Link>>,
+    links: ReservedVec<Link>,
 }
 
 impl Model for Hints {
     ghost use Rattle.std.specs.Prelude.{min};
-    ghost use Rattle.vol_state.specs.Rows.{items_of, room_of};
     ghost use Rattle.vol_state.specs.Hints.{Hinted, IsThreaded, spare_of};
 
     ghost Value = { Hinted };
 
-    ghost view = { λ hints. record { links = items_of hints.links; room = min (spare_of hints.newest) (room_of hints.links) } };
+    ghost view = { λ hints. record { links = hints.links.items; room = min (spare_of hints.newest) hints.links.room } };
 
-    ghost invariant = { λ hints. IsThreaded hints.newest (items_of hints.links) };
+    ghost invariant = { λ hints. IsThreaded hints.newest hints.links.items };
 }
 
 /// What a map has at a key, 0 where it has nothing.
@@ -84,14 +82,12 @@ fn put_newest(newest: &mut Option<HashMap<u64, usize>>, key: u64, at: usize)
 }
 
 /// Makes a hint lead to another object.
-fn redirect(links: &mut Option<Vec<Link>>, index: usize, fid: u64)
-    requires { index < length (items_of links.old) }
-    ensures { items_of links.new ≡ redirected index fid (items_of links.old) }
+fn redirect(links: &mut ReservedVec<Link>, index: usize, fid: u64)
+    requires { index < length links.old.items }
+    ensures { links.new.items ≡ redirected index fid links.old.items }
 {
-    match links {
-        None => unreachable!(),
-        Some(links) => links[index].fid = fid,
-    }
+    let link = links.as_slice()[index];
+    links.set(index, Link { fid, ..link });
 }
 
 impl Hints {
@@ -101,7 +97,7 @@ impl Hints {
     {
         Hints {
             newest: None,
-            links: None,
+            links: ReservedVec::empty(),
         }
     }
 
@@ -118,7 +114,7 @@ impl Hints {
         ensures links { result.now ≡ self.now.links }
         ensures chained { AreChained self.now.links }
     {
-        items(&self.links)
+        self.links.as_slice()
     }
 
     /// Makes room for one more hint.
@@ -127,7 +123,7 @@ impl Hints {
         ensures room { OnOk result (0 < self.new.room) }
     {
         reserve_key(alloc, &mut self.newest)?;
-        reserve_one(alloc, &mut self.links)
+        self.links.reserve_one(alloc)
     }
 
     /// The object that the newest hint with this key leads to.
@@ -138,7 +134,7 @@ impl Hints {
         if at == 0 {
             return None;
         }
-        Some(items(&self.links)[at - 1].fid)
+        Some(self.links.as_slice()[at - 1].fid)
     }
 
     /// Adds a hint.
@@ -147,9 +143,9 @@ impl Hints {
         ensures { self.new.links ≡ self.old.links ++ record { key = key; fid = fid; previous = last_with key self.old.links } ∷ [] }
     {
         let previous = newest_of(&self.newest, key);
-        let count = items(&self.links).len();
+        let count = self.links.as_slice().len();
         put_newest(&mut self.newest, key, count + 1);
-        push_reserved(&mut self.links, Link { key, fid, previous });
+        self.links.push(Link { key, fid, previous });
     }
 
     /// Makes the newest hint with this key lead to another object.

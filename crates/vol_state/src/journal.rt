@@ -1,12 +1,10 @@
 // The journal of a volume.
-ghost use Rattle.std.specs.Prelude.{◌≡◌, ◌<◌, ◌==◌, ◌&&◌, ◌∷◌, ◌++◌, [], true, ◌+◌, length, OnOk, find, option_copied, slice_get};
+ghost use Rattle.std.specs.Prelude.{◌≡◌, ◌<◌, ◌==◌, ◌&&◌, ◌∷◌, ◌++◌, [], true, ◌+◌, length, OnOk, filter, find, nat_le, option_copied, slice_get};
 ghost use Rattle.frs_base.specs.Versions.{same_uid};
-ghost use Rattle.vol_state.specs.Rows.{items_of, room_of};
-ghost use Rattle.vol_state.specs.Journal.{RunsFrom, last_local, record_at};
+ghost use Rattle.vol_state.specs.Journal.{RunsFrom, last_local, pending_local, record_at};
 
 use crate::VolRecord;
-use crate::rows::{items, push_reserved, reserve_one};
-use frs_base::Uid;
+use frs_base::{ReservedVec, Uid};
 use std::alloc::{AllocError, Global};
 use std::marker::Model;
 
@@ -18,22 +16,22 @@ pub(crate) const FIRST_USN: u64 = 9;
 /// A contract sees the records, and for how many more there is room.
 #[derive(Drop)]
 pub(crate) struct Journal {
-    records: Option<Vec<VolRecord>>,
+    records: ReservedVec<VolRecord>,
     // Whether the USNs run from the first without a gap: then a record's place tells its USN.
     runs: bool,
 }
 
 impl Model for Journal {
     ghost use Rattle.std.specs.Prelude.{◌≡◌, true};
-    ghost use Rattle.vol_state.specs.Rows.{items_of, room_of};
-    ghost use Rattle.vol_state.specs.Seen.{Logged};
+    ghost use Rattle.frs_base.specs.Reserved.{Reserved};
+    ghost use Rattle.vol_state.specs.declared.record.VolRecord.{VolRecord};
     ghost use Rattle.vol_state.specs.Journal.{RunsFrom};
 
-    ghost Value = { Logged };
+    ghost Value = { Reserved VolRecord };
 
-    ghost view = { λ journal. record { items = items_of journal.records; room = room_of journal.records } };
+    ghost view = { λ journal. journal.records };
 
-    ghost invariant = { λ journal. journal.runs ≡ true → RunsFrom 9 (items_of journal.records) };
+    ghost invariant = { λ journal. journal.runs ≡ true → RunsFrom 9 journal.records.items };
 }
 
 /// The record at an index.
@@ -54,26 +52,36 @@ fn record_by_index(records: &[VolRecord], usn: u64) -> Option<&VolRecord>
     get(records, (usn - FIRST_USN) as usize)
 }
 
-/// The record is a local one of this UID.
-fn is_local_of(entry: &VolRecord, uid: &Uid) -> bool
-    ensures { result ≡ (entry.now.local && same_uid entry.now.uid uid.now) }
+/// The record is a local one of this UID, at or past this USN.
+fn is_pending(entry: &VolRecord, uid: &Uid, from: u64) -> bool
+    ensures { result ≡ (nat_le from entry.now.usn && (entry.now.local && same_uid entry.now.uid uid.now)) }
 {
-    entry.local && entry.uid == *uid
+    from <= entry.usn && entry.local && entry.uid == *uid
 }
 
-/// The USN of the last local record of a UID. The newest records are looked at first.
-fn last_local(records: &[VolRecord], uid: Uid) -> Option<u64>
-    ensures { result ≡ last_local records.now uid }
+/// The USN of the last local record of a UID at or past a USN. The newest records are looked at
+/// first.
+fn last_pending(records: &[VolRecord], uid: Uid, from: u64) -> Option<u64>
+    ensures { result ≡ pending_local records.now uid from }
 {
     let mut left = records.len();
     while left > 0 {
         left -= 1;
         let record = &records[left];
-        if is_local_of(record, &uid) {
+        if is_pending(record, &uid, from) {
             return Some(record.usn);
         }
     }
     None
+}
+
+/// The records from a USN on, where they run from the first.
+fn records_from(records: &[VolRecord], from: u64) -> &[VolRecord]
+    requires { RunsFrom 9 records.now }
+    ensures { filter (λ r. nat_le from r.usn) result.now ≡ filter (λ r. nat_le from r.usn) records.now }
+{
+    let before = from.saturating_sub(FIRST_USN) as usize;
+    &records[before.min(records.len())..]
 }
 
 /// The USNs run, and a record with this one goes on.
@@ -89,7 +97,7 @@ impl Journal {
         ensures { result.items ≡ [] }
     {
         Journal {
-            records: None,
+            records: ReservedVec::empty(),
             runs: true,
         }
     }
@@ -98,7 +106,7 @@ impl Journal {
     pub(crate) fn as_slice(&self) -> &[VolRecord]
         ensures { result.now ≡ self.now.items }
     {
-        items(&self.records)
+        self.records.as_slice()
     }
 
     /// The first record with this USN.
@@ -106,7 +114,7 @@ impl Journal {
         ensures { option_copied result ≡ record_at self.now.items usn }
     {
         if self.runs {
-            return record_by_index(items(&self.records), usn);
+            return record_by_index(self.records.as_slice(), usn);
         }
         self.as_slice().iter().find(|record| record.usn == usn)
     }
@@ -115,7 +123,18 @@ impl Journal {
     pub(crate) fn last_local(&self, uid: Uid) -> Option<u64>
         ensures { result ≡ last_local self.now.items uid }
     {
-        last_local(self.as_slice(), uid)
+        last_pending(self.as_slice(), uid, 0)
+    }
+
+    /// The USN of the last local record of a UID at or past a USN.
+    pub(crate) fn pending_local(&self, uid: Uid, from: u64) -> Option<u64>
+        ensures { result ≡ pending_local self.now.items uid from }
+    {
+        if self.runs {
+            let recent = records_from(self.records.as_slice(), from);
+            return last_pending(recent, uid, from);
+        }
+        last_pending(self.as_slice(), uid, from)
     }
 
     /// Makes room for one more record.
@@ -123,7 +142,7 @@ impl Journal {
         ensures same { self.new.items ≡ self.old.items }
         ensures room { OnOk result (0 < self.new.room) }
     {
-        reserve_one(alloc, &mut self.records)
+        self.records.reserve_one(alloc)
     }
 
     /// Adds a record, for which there is room.
@@ -131,7 +150,7 @@ impl Journal {
         requires { 0 < self.old.room }
         ensures { self.new.items ≡ self.old.items ++ entry ∷ [] }
     {
-        self.runs = runs_on(self.runs, items(&self.records), entry.usn);
-        push_reserved(&mut self.records, entry);
+        self.runs = runs_on(self.runs, self.records.as_slice(), entry.usn);
+        self.records.push(entry);
     }
 }

@@ -1,7 +1,7 @@
 // Lists of objects in order of their numbers.
-ghost use Rattle.std.specs.Prelude.{◌≡◌, ◌==◌, ◌<◌, ◌≤◌, true, false, nat_lt, length, option_copied, position};
+ghost use Rattle.std.specs.Prelude.{◌≡◌, ◌==◌, ◌<◌, ◌≤◌, ◌∷◌, ◌++◌, [], OnOk, true, false, nat_lt, length, option_copied, position};
 ghost use Rattle.std.specs.List.Sorted.{IsPartitionPoint};
-ghost use Rattle.vol_state.specs.Rows.{items_of};
+ghost use Rattle.frs_base.specs.Reserved.{reserved_of};
 ghost use Rattle.vol_state.specs.Places.{has_children, is_child, object_at};
 ghost use Rattle.vol_state.specs.Tree.{AreRising, IsTree};
 ghost use Rattle.frs_base.specs.Options.{some_is};
@@ -10,6 +10,7 @@ ghost use Rattle.vol_state.specs.Effects.{at_place, edit, stamp, with_bytes, wit
 
 use crate::Object;
 use frs_base::{Bytes, Kind, Name, Sum};
+use std::alloc::{AllocError, Global};
 
 /// The index of the first object whose number isn't below this one.
 fn first_from(objects: &[Object], fid: u64) -> usize
@@ -145,6 +146,41 @@ fn take_at(objects: &mut Vec<Object>, fid: u64)
     }
 }
 
+/// The objects, where they were begun.
+pub(crate) fn objects_in(objects: &Option<Vec<Object>>) -> &[Object]
+    ensures { result.now ≡ (reserved_of objects.now).items }
+{
+    match objects {
+        None => &[],
+        Some(items) => items.as_slice(),
+    }
+}
+
+/// Makes room for one more object.
+pub(crate) fn reserve_in(alloc: Global, objects: &mut Option<Vec<Object>>) -> Result<(), AllocError>
+    ensures same { (reserved_of objects.new).items ≡ (reserved_of objects.old).items }
+    ensures room { OnOk result (0 < (reserved_of objects.new).room) }
+{
+    if objects.is_none() {
+        *objects = Some(Vec::new(alloc));
+    }
+    match objects {
+        None => Ok(()),
+        Some(items) => items.reserve(1),
+    }
+}
+
+/// Adds an object, for which there is room.
+pub(crate) fn add_to(objects: &mut Option<Vec<Object>>, object: Object)
+    requires { 0 < (reserved_of objects.old).room }
+    ensures { (reserved_of objects.new).items ≡ (reserved_of objects.old).items ++ object ∷ [] }
+{
+    match objects {
+        None => unreachable!(),
+        Some(items) => items.push_reserved(object),
+    }
+}
+
 /// Gives an object a place, where objects were begun.
 pub(crate) fn place_in(
     objects: &mut Option<Vec<Object>>,
@@ -153,8 +189,8 @@ pub(crate) fn place_in(
     local: bool,
     usn: u64,
 )
-    requires { AreRising 0 (items_of objects.old) }
-    ensures { items_of objects.new ≡ edit fid (λ o. stamp local usn (at_place place o)) (items_of objects.old) }
+    requires { AreRising 0 (reserved_of objects.old).items }
+    ensures { (reserved_of objects.new).items ≡ edit fid (λ o. stamp local usn (at_place place o)) (reserved_of objects.old).items }
 {
     match objects {
         None => {}
@@ -170,8 +206,8 @@ pub(crate) fn fill_in(
     local: bool,
     usn: u64,
 )
-    requires { AreRising 0 (items_of objects.old) }
-    ensures { items_of objects.new ≡ edit fid (λ o. stamp local usn (with_bytes bytes o)) (items_of objects.old) }
+    requires { AreRising 0 (reserved_of objects.old).items }
+    ensures { (reserved_of objects.new).items ≡ edit fid (λ o. stamp local usn (with_bytes bytes o)) (reserved_of objects.old).items }
 {
     match objects {
         None => {}
@@ -181,8 +217,8 @@ pub(crate) fn fill_in(
 
 /// Takes an object out, where objects were begun.
 pub(crate) fn take_from(objects: &mut Option<Vec<Object>>, fid: u64)
-    requires { AreRising 0 (items_of objects.old) }
-    ensures { items_of objects.new ≡ without fid (items_of objects.old) }
+    requires { AreRising 0 (reserved_of objects.old).items }
+    ensures { (reserved_of objects.new).items ≡ without fid (reserved_of objects.old).items }
 {
     match objects {
         None => {}

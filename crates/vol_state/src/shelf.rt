@@ -9,8 +9,9 @@ ghost use Rattle.vol_state.specs.Effects.{at_place, edit, stamp, with_bytes, wit
 use crate::Object;
 use crate::hints::Hints;
 use crate::lookups::{child_by, hint_place, hint_uid, object_by};
-use crate::objects::{fill_in, has_children_in, object_at, place_in, take_from};
-use crate::rows::{items, push_reserved, reserve_one};
+use crate::objects::{
+    add_to, fill_in, has_children_in, object_at, objects_in, place_in, reserve_in, take_from,
+};
 use frs_base::{Bytes, Guid, Name, Uid};
 use std::alloc::{AllocError, Global};
 use std::marker::Model;
@@ -23,6 +24,7 @@ use std::marker::Model;
 #[derive(Drop)]
 pub(crate) struct Shelf {
     own: Guid,
+    // Changed in place, which a `ReservedVec` doesn't lend.
     objects: Option<Vec<Object>>,
     places: Hints,
     uids: Hints,
@@ -30,15 +32,15 @@ pub(crate) struct Shelf {
 
 impl Model for Shelf {
     ghost use Rattle.std.specs.Prelude.{min};
-    ghost use Rattle.vol_state.specs.Rows.{items_of, room_of};
+    ghost use Rattle.frs_base.specs.Reserved.{reserved_of};
     ghost use Rattle.vol_state.specs.Seen.{Shelved};
     ghost use Rattle.vol_state.specs.Hints.{IsShelf};
 
     ghost Value = { Shelved };
 
-    ghost view = { λ shelf. record { own = shelf.own; items = items_of shelf.objects; room = min (room_of shelf.objects) (min shelf.places.room shelf.uids.room) } };
+    ghost view = { λ shelf. record { own = shelf.own; items = (reserved_of shelf.objects).items; room = min (reserved_of shelf.objects).room (min shelf.places.room shelf.uids.room) } };
 
-    ghost invariant = { λ shelf. IsShelf shelf.own shelf.places.links shelf.uids.links (items_of shelf.objects) };
+    ghost invariant = { λ shelf. IsShelf shelf.own shelf.places.links shelf.uids.links (reserved_of shelf.objects).items };
 }
 
 impl Shelf {
@@ -67,28 +69,28 @@ impl Shelf {
         ensures objects { result.now ≡ self.now.items }
         ensures tree { IsTree self.now.items }
     {
-        items(&self.objects)
+        objects_in(&self.objects)
     }
 
     /// The object with this number.
     pub(crate) fn object_at(&self, fid: u64) -> Option<&Object>
         ensures { option_copied result ≡ object_at self.now.items fid }
     {
-        object_at(items(&self.objects), fid)
+        object_at(objects_in(&self.objects), fid)
     }
 
     /// The object in a directory under a matching name.
     pub(crate) fn child(&self, parent: u64, name: &Name) -> Option<&Object>
         ensures { option_copied result ≡ child self.now.items parent name.now }
     {
-        child_by(items(&self.objects), &self.places, parent, name)
+        child_by(objects_in(&self.objects), &self.places, parent, name)
     }
 
     /// Whether an object stands in this directory.
     pub(crate) fn has_children(&self, fid: u64) -> bool
         ensures { result ≡ has_children self.now.items fid }
     {
-        has_children_in(items(&self.objects), fid)
+        has_children_in(objects_in(&self.objects), fid)
     }
 
     /// The object with this UID.
@@ -96,7 +98,7 @@ impl Shelf {
         requires { IsOneEach self.now.own self.now.items }
         ensures { option_copied result ≡ find (λ o. same_uid (uid_of self.now.own o) uid.now) self.now.items }
     {
-        object_by(items(&self.objects), &self.uids, self.own, uid)
+        object_by(objects_in(&self.objects), &self.uids, self.own, uid)
     }
 
     /// Makes room for one more object.
@@ -105,7 +107,7 @@ impl Shelf {
         ensures same { self.new.items ≡ self.old.items }
         ensures room { OnOk result (0 < self.new.room) }
     {
-        reserve_one(alloc, &mut self.objects)?;
+        reserve_in(alloc, &mut self.objects)?;
         self.places.reserve(alloc)?;
         self.uids.reserve(alloc)
     }
@@ -119,10 +121,10 @@ impl Shelf {
     {
         let own = self.own;
         let uid = object.uid(own);
-        let objects = items(&self.objects);
+        let objects = objects_in(&self.objects);
         hint_place(objects, &mut self.places, object.fid, &object.place);
         hint_uid(objects, &mut self.uids, own, object.fid, uid);
-        push_reserved(&mut self.objects, object);
+        add_to(&mut self.objects, object);
     }
 
     /// Gives an object a place, or limbo. A local change leaves its USN.
@@ -132,7 +134,7 @@ impl Shelf {
         ensures own { self.new.own ≡ self.old.own }
         ensures items { self.new.items ≡ edit fid (λ o. stamp local usn (at_place place o)) self.old.items }
     {
-        hint_place(items(&self.objects), &mut self.places, fid, &place);
+        hint_place(objects_in(&self.objects), &mut self.places, fid, &place);
         place_in(&mut self.objects, fid, place, local, usn);
     }
 

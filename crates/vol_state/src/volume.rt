@@ -3,7 +3,7 @@ ghost use Rattle.std.specs.Prelude.{◌≡◌, find, option_copied};
 ghost use Rattle.frs_base.specs.Versions.{same_uid};
 ghost use Rattle.vol_state.specs.Paths.{check};
 ghost use Rattle.vol_state.specs.Places.{object_at};
-ghost use Rattle.vol_state.specs.Journal.{last_local, record_at};
+ghost use Rattle.vol_state.specs.Journal.{last_local, pending_local, record_at};
 ghost use Rattle.vol_state.specs.State.{object_of, uid_of};
 ghost use Rattle.vol_state.specs.Valid.{IsVolume};
 ghost use Rattle.vol_state.specs.Seen.{fresh_state};
@@ -99,6 +99,14 @@ impl Volume {
         ensures { result ≡ last_local self.now.state.journal uid }
     {
         self.journal.last_local(uid)
+    }
+
+    /// The USN of the last local journal record of a UID at or past a USN, none exactly where there
+    /// is none. While USNs run without a gap, no record before that USN is looked at.
+    pub fn pending_local(&self, uid: Uid, from: u64) -> Option<u64>
+        ensures { result ≡ pending_local self.now.state.journal uid from }
+    {
+        self.journal.pending_local(uid, from)
     }
 
     /// The object with this UID.

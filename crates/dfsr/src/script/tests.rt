@@ -85,10 +85,28 @@ fn short_scripts(rt: HostRuntime) -> Result<(), Fail> {
     Ok(())
 }
 
+/// That a script has a row outside the grammar, whose number is written.
+fn expect_bad(rt: &impl Abort, alloc: Global, text: &[u8], number: u64) -> Result<(), Fail> {
+    let (ended, out) = script(alloc, text)?;
+    let line = format!(in alloc; "bad line {number}\n")?;
+    assert_eq!(rt; ended, Status::ScriptBad, "{text:?}");
+    assert_eq!(rt; out.bytes(), line.as_bytes(), "{text:?}");
+    Ok(())
+}
+
+#[test]
+fn a_second_line_that_is_no_line(rt: HostRuntime) -> Result<(), Fail> {
+    expect_bad(&rt, rt.alloc(), b"member a primary\nfrob\n", 2)
+}
+
+#[test]
+fn a_put_without_its_space(rt: HostRuntime) -> Result<(), Fail> {
+    expect_bad(&rt, rt.alloc(), b"member a primary\nput a x\n", 2)
+}
+
 #[test]
 fn rows_outside_the_grammar(rt: HostRuntime) -> Result<(), Fail> {
     let rows = [
-        "member a primary\nfrob\n",
         "show\n",
         "show a \n",
         " show a\n",
@@ -104,10 +122,65 @@ fn rows_outside_the_grammar(rt: HostRuntime) -> Result<(), Fail> {
         "show\ta\n",
     ];
     for text in rows {
-        expect(&rt, rt.alloc(), text, Status::ScriptBad, "")?;
+        expect_bad(&rt, rt.alloc(), text.as_bytes(), 1)?;
     }
-    let (ended, out) = script(rt.alloc(), b"member a plain\n# \xff\n")?;
-    assert_eq!(rt; ended, Status::ScriptBad);
+    expect_bad(&rt, rt.alloc(), b"member a plain\n# \xff\n", 2)
+}
+
+#[test]
+fn empty_rows_and_comments_are_counted(rt: HostRuntime) -> Result<(), Fail> {
+    let rows = [
+        ("\n\nfrob", 3),
+        (
+            "# frob\n\nmember a plain\n# x\n\nshow a\nshow  a\nfrob\n",
+            7,
+        ),
+        ("member a plain\n\n \n", 3),
+        ("#\n#\n#\nshow a\n\u{a0}\n", 5),
+    ];
+    for (text, number) in rows {
+        expect_bad(&rt, rt.alloc(), text.as_bytes(), number)?;
+    }
+    Ok(())
+}
+
+#[test]
+fn lines_that_are_not_built(rt: HostRuntime) -> Result<(), Fail> {
+    let rows = [
+        "put a x text",
+        "put a x ",
+        "fill a x 10",
+        "mkdir a x",
+        "move a x y",
+        "remove a x",
+        "consume a 1",
+        "change a x/y 1",
+        "tree a",
+        "count a",
+    ];
+    let alloc = rt.alloc();
+    for row in rows {
+        let text = format!(in alloc; "# x\nmember a plain\n\n{row}\nfrob\n{row}\n")?;
+        expect_bad(&rt, alloc, text.as_bytes(), 4)?;
+        let text = format!(in alloc; "# x\nfrob\nmember a plain\n{row}\n")?;
+        expect_bad(&rt, alloc, text.as_bytes(), 2)?;
+    }
+    Ok(())
+}
+
+#[test]
+fn a_bad_line_goes_before_nine_members(rt: HostRuntime) -> Result<(), Fail> {
+    let nine = repeated(rt.alloc(), "member a plain\n", 9)?;
+    let text = format!(in rt.alloc(); "{nine}show\n")?;
+    expect_bad(&rt, rt.alloc(), text.as_bytes(), 10)
+}
+
+#[test]
+fn a_sink_that_fails_at_the_bad_line(rt: HostRuntime) -> Result<(), Fail> {
+    let alloc = rt.alloc();
+    let failing = vec![in alloc; 1]?;
+    let (ended, out) = ran(alloc, &["script"], b"frob\n", Vec::new(alloc), failing)?;
+    assert_eq!(rt; ended, Status::WriteFault);
     assert_eq!(rt; out.bytes(), b"".as_slice());
     Ok(())
 }
@@ -169,10 +242,15 @@ fn nine_member_lines(rt: HostRuntime) -> Result<(), Fail> {
 #[test]
 fn more_bytes_than_a_script_has(rt: HostRuntime) -> Result<(), Fail> {
     let alloc = rt.alloc();
-    let most = repeated(alloc, "#", 1_048_576)?;
-    expect(&rt, alloc, most.as_str(), Status::Done, "")?;
-    let more = repeated(alloc, "x", 1_048_577)?;
-    expect(&rt, alloc, more.as_str(), Status::TooLarge, "")
+    let most = vec![in alloc; b'#'; 16_777_216]?;
+    let (ended, out) = script(alloc, &most)?;
+    assert_eq!(rt; ended, Status::Done);
+    assert_eq!(rt; out.bytes(), b"".as_slice());
+    let more = vec![in alloc; b'x'; 16_777_217]?;
+    let (ended, out) = script(alloc, &more)?;
+    assert_eq!(rt; ended, Status::TooLarge);
+    assert_eq!(rt; out.bytes(), b"".as_slice());
+    Ok(())
 }
 
 #[test]

@@ -13,12 +13,12 @@ run-requires-clause-room g c = room_within c.loop-line.line-index c.loop-line.en
 pub returns-in_err-text-clause-err : goal.returns-in_err-text-clause-err
 returns-in_err-text-clause-err g c =
     let (said, w, front, run, stands, takes, split) = c.loop-line.invariant.ran in
-    OnErr-of_fact _ (some_of_all c.args.lines.now c.loop-line.line-index _ _ said w run (front_is_some _ _ said front _ takes split))
+    OnErr-of_fact _ (some_of_all c.args.lines.now c.loop-line.line-index _ _ said w c.requires run (front_is_some _ _ said front _ takes split))
 
 pub returns-in_err-push_str-clause-err : goal.returns-in_err-push_str-clause-err
 returns-in_err-push_str-clause-err g c =
     let (said, w, front, run, stands, takes, split) = c.loop-line.invariant.ran in
-    OnErr-of_fact _ (some_of_all c.args.lines.now c.loop-line.line-index _ _ said w run (front_is_some _ _ said front _ takes split))
+    OnErr-of_fact _ (some_of_all c.args.lines.now c.loop-line.line-index _ _ said w c.requires run (front_is_some _ _ said front _ takes split))
 
 pub returns-in_err-hand_on-clause-err : goal.returns-in_err-hand_on-clause-err
 returns-in_err-hand_on-clause-err g c =
@@ -31,7 +31,7 @@ returns-in_err-hand_on-clause-err g c =
     let text = string_bytes c.in_ok-text.text in
     let pushed : string_bytes c.push_str.new.self ≡ string_bytes c.loop-line.pending ++ text = c.in_ok-push_str.ensures.bytes ∙ ap (λ t. string_bytes c.loop-line.pending ++ t) c.as_str.ensures.value in
     let grown = pending_grows said front (string_bytes c.loop-line.pending) text (string_bytes c.push_str.new.self) split pushed in
-    OnErr-of_fact _ (some_of_all lines (i + 1) _ _ (said ++ text) new (next_line lines i line said w text new more run does)
+    OnErr-of_fact _ (some_of_all lines (i + 1) _ _ (said ++ text) new c.requires (next_line lines i line said w text new more run does)
     (piece_cut _ _ _ (said ++ text) front _ takes grown c.in_err-hand_on.ensures.err))
 
 pub loop-line-preserved : goal.loop-line-preserved
@@ -62,4 +62,4 @@ pub returns-clause-err : goal.returns-clause-err
 returns-clause-err g c =
     let (said, w, front, run, stands, takes, split) = c.loop-line.invariant.ran in
     let parts : said ≡ front ++ c.as_bytes.result.now = split ∙ ap (λ p. front ++ p) (sym c.as_bytes.ensures.value) in
-    on_err_weaker c.write_all.result (λ some. some_of_all c.args.lines.now c.loop-line.line-index _ _ said w run (piece_cut _ _ _ said front _ takes parts some)) c.write_all.ensures.err
+    on_err_weaker c.write_all.result (λ some. some_of_all c.args.lines.now c.loop-line.line-index _ _ said w c.requires run (piece_cut _ _ _ said front _ takes parts some)) c.write_all.ensures.err

@@ -1,5 +1,5 @@
 // Scripts whose lines change files.
-use super::{expect, repeated};
+use super::{expect, expect_bad, repeated};
 use crate::status::Status;
 use std::alloc::Global;
 use std::process::Abort;
@@ -105,7 +105,7 @@ fn moments_outside_the_grammar(rt: HostRuntime) -> Result<(), Fail> {
     ];
     for moment in moments {
         let text = format!(in alloc; "member a plain\nchange a x {moment}\n")?;
-        expect(&rt, alloc, text.as_str(), Status::ScriptBad, "")?;
+        expect_bad(&rt, alloc, text.as_bytes(), 2)?;
     }
     Ok(())
 }
@@ -127,7 +127,7 @@ fn paths_outside_the_grammar(rt: HostRuntime) -> Result<(), Fail> {
     ];
     for path in paths {
         let text = format!(in alloc; "member a plain\nchange a {path} 1\n")?;
-        expect(&rt, alloc, text.as_str(), Status::ScriptBad, "")?;
+        expect_bad(&rt, alloc, text.as_bytes(), 2)?;
     }
     Ok(())
 }

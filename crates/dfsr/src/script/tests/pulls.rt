@@ -1,5 +1,5 @@
 // Scripts whose lines pull.
-use super::expect;
+use super::{expect, expect_bad};
 use crate::status::Status;
 use std::test::Fail;
 
@@ -99,7 +99,7 @@ fn pull_lines_outside_the_grammar(rt: HostRuntime) -> Result<(), Fail> {
         "pull a abcdefghi\n",
         "Pull a b\n",
     ] {
-        expect(&rt, rt.alloc(), text, Status::ScriptBad, "")?;
+        expect_bad(&rt, rt.alloc(), text.as_bytes(), 1)?;
     }
     Ok(())
 }

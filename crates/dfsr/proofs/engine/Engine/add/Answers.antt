@@ -4,7 +4,7 @@ use Rattle.dfsr.specs.Changes.{IsFresh}
 use Rattle.dfsr.specs.Standing.{Stands}
 use Rattle.dfsr.specs.Text.{Does}
 use Rattle.dfsr.specs.World.{World, fresh_member, with_member}
-use Rattle.dfsr.specs.declared.line.Line.TheVariants as lines
+use Rattle.script_lang.specs.declared.line.Line.TheVariants as lines
 use Rattle.dfsr.proofs.Members.{add_known, add_new, add_stands, place_held}
 use Rattle.dfsr.proofs.Refusals.{said_of}
 use Rattle.dfsr.proofs.engine.Engine.add.Goals as goal

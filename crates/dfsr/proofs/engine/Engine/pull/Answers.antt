@@ -9,7 +9,7 @@ use Rattle.dfsr.specs.Records.{both}
 use Rattle.dfsr.specs.Standing.{Stands}
 use Rattle.dfsr.specs.Text.{Does, pull_words}
 use Rattle.dfsr.specs.World.{World}
-use Rattle.dfsr.specs.declared.line.Line.TheVariants as lines
+use Rattle.script_lang.specs.declared.line.Line.TheVariants as lines
 use Rattle.dfsr.proofs.Bounds.{within_taken, within_unchanged}
 use Rattle.dfsr.proofs.Members.{adopted_from, held_found, place_held, pull_cut, pull_done, pull_from_unknown, pull_itself, pull_unknown}
 use Rattle.dfsr.proofs.Refusals.{said_always, said_of}

@@ -1,7 +1,7 @@
 use Rattle.std.proofs.Common.{◌≡◌, ◌∙◌, ap, sym, subst, Some}
 use Rattle.std.specs.Prelude.{slice_get}
 use Rattle.dfsr.specs.Text.{Does}
-use Rattle.dfsr.specs.declared.line.Line.TheVariants as lines
+use Rattle.script_lang.specs.declared.line.Line.TheVariants as lines
 use Rattle.dfsr.proofs.Members.{held_found, place_held, show_known, show_unknown, shown}
 use Rattle.dfsr.proofs.Refusals.{said_of}
 use Rattle.dfsr.proofs.engine.Engine.show.Goals as goal

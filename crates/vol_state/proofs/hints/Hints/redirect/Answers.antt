@@ -1,6 +1,5 @@
 use Rattle.std.proofs.Common.{◌≡◌, ◌∙◌, ◌-◌, ◌<◌, sym, ap, subst, List, ℕ, length}
 use Rattle.std.specs.Prelude.{IsSome}
-use Rattle.vol_state.specs.Rows.{items_of}
 use Rattle.vol_state.specs.declared.hints.Link.{Link}
 use Rattle.vol_state.specs.Hints.{head_of, last_with}
 use Rattle.vol_state.proofs.Chains.{head_some, head_index, threaded_redirected}
@@ -14,10 +13,10 @@ index_within key at own links e is s =
 
 pub redirect-requires : goal.redirect-requires
 redirect-requires c =
-    index_within c.args.key c.newest_of-index.result (items_of c.self.inside.links) c.args.self.now.links (ap (λ s. s.links) c.self.view_is) (c.newest_of-index.ensures ∙ c.self.invariant.newest_is c.args.key) c.requires
+    index_within c.args.key c.newest_of-index.result c.self.inside.links.items c.args.self.now.links (ap (λ s. s.links) c.self.view_is) (c.newest_of-index.ensures ∙ c.self.invariant.newest_is c.args.key) c.requires
 
 pub invariant_of-self : goal.invariant_of-self
 invariant_of-self c =
-    rw c.redirect.ensures (threaded_redirected c.self.inside.newest (items_of c.self.inside.links) (c.newest_of-index.result - 1) c.args.fid
-    (index_within c.args.key c.newest_of-index.result (items_of c.self.inside.links) c.args.self.now.links (ap (λ s. s.links) c.self.view_is) (c.newest_of-index.ensures ∙ c.self.invariant.newest_is c.args.key) c.requires)
+    rw c.redirect.ensures (threaded_redirected c.self.inside.newest c.self.inside.links.items (c.newest_of-index.result - 1) c.args.fid
+    (index_within c.args.key c.newest_of-index.result c.self.inside.links.items c.args.self.now.links (ap (λ s. s.links) c.self.view_is) (c.newest_of-index.ensures ∙ c.self.invariant.newest_is c.args.key) c.requires)
     c.self.invariant)

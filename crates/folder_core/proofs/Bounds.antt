@@ -1,0 +1,67 @@
+-- Own versions and clocks stay in their bounds.
+use Rattle.std.proofs.Common.{◌≡◌, ◌<◌, ◌≤◌, ◌+◌, ◌^◌, ℕ, true, List, Option, Some, None, refl, sym, ap, ◌∙◌, subst, inl, inr, arith}
+use Rattle.std.specs.Prelude.{MatchOption, option_map}
+use Rattle.std.specs.List.{AllByRecursion}
+use Rattle.frs_base.specs.declared.version.Gvsn.{Gvsn}
+use Rattle.version_vector.specs.Versions.{covers}
+use Rattle.version_vector.specs.declared.interval.Interval.{Interval}
+use Rattle.win_order.specs.declared.update.Update.{Update}
+use Rattle.record_db.specs.declared.command.BookCmd.TheVariants.{RecordLocal, Adopt, Finish}
+use Rattle.record_db.specs.Lists.{put_any}
+use Rattle.record_db.specs.Records.{both, plus}
+use Rattle.record_db.specs.State.{BookState}
+use Rattle.record_db.specs.Steps.{Changes, in_set, own_version}
+use Rattle.record_db.proofs.Lists.{put_all}
+use Rattle.record_db.proofs.Sets.{both_cases, plus_cases}
+use Rattle.folder_core.specs.Sound.{IsInBounds}
+
+-- the clock of an update, if there is one, is below 2^62
+abbrev pub HasClock : Option Update → Type 0
+HasClock made = MatchOption made (Unit {0}) (λ u. u.clock < 2 ^ 62)
+
+clocks_put : (set : ℕ) (made : Option Update) (records : List Update) → AllByRecursion (λ u. u.clock < 2 ^ 62) records → HasClock made
+    → AllByRecursion (λ u. u.clock < 2 ^ 62) (put_any (option_map (in_set set) made) records)
+clocks_put set None records clocks has = clocks
+clocks_put set (Some m) records clocks has = put_all (λ u. u.clock < 2 ^ 62) (in_set set m) records clocks has
+
+-- a journal record is consumed
+pub bounds_recorded : (old new : BookState) (made : Option Update) → IsInBounds old → HasClock made → Changes (RecordLocal old.consumed made) old new → IsInBounds new
+bounds_recorded old new made h has c = record {
+  begun = let more = c.consumed in let begun = h.begun in omega (arith, more, begun);
+  ahead = λ g covered own. ahead g (sym (c.vector.covering g) ∙ covered) (own ∙ c.own);
+  clocks = subst (AllByRecursion (λ u. u.clock < 2 ^ 62)) (sym c.records) (clocks_put old.set made old.records h.clocks has);
+}
+  where
+    ahead : (g : Gvsn) → plus (covers old.vector) (own_version old old.consumed) g ≡ true → g.db ≡ old.own → g.version < new.consumed
+    ahead g covered own = elim (plus_cases (covers old.vector) (own_version old old.consumed) g covered) [
+      | inl same ↦ let version = ap (λ z. z.version) same in let more = c.consumed in omega (arith, version, more)
+      | inr before ↦ let low = h.ahead g before own in let more = c.consumed in omega (arith, low, more)
+    ]
+
+-- an update is taken
+pub bounds_adopted : (old new : BookState) (u : Update) → IsInBounds old → u.clock < 2 ^ 62 → (u.gvsn.db ≡ old.own → u.gvsn.version < old.consumed) → Changes (Adopt u) old new → IsInBounds new
+bounds_adopted old new u h has made c = record {
+  begun = subst (λ n. 9 ≤ n) (sym c.consumed) h.begun;
+  ahead = λ g covered own. subst (λ n. g.version < n) (sym c.consumed) (ahead g (sym (c.vector.covering g) ∙ covered) (own ∙ c.own));
+  clocks = subst (AllByRecursion (λ u. u.clock < 2 ^ 62)) (sym c.records) (clocks_put old.set (Some u) old.records h.clocks has);
+}
+  where
+    ahead : (g : Gvsn) → plus (covers old.vector) u.gvsn g ≡ true → g.db ≡ old.own → g.version < old.consumed
+    ahead g covered own = elim (plus_cases (covers old.vector) u.gvsn g covered) [
+      | inl same ↦ subst (λ (z : Gvsn). z.version < old.consumed) (sym same) (made (ap (λ z. z.db) (sym same) ∙ own))
+      | inr before ↦ h.ahead g before own
+    ]
+
+-- a round is finished
+pub bounds_finished : (old new : BookState) (sent : List Interval) → IsInBounds old → ((g : Gvsn) → covers sent g ≡ true → g.db ≡ old.own → g.version < old.consumed) → Changes (Finish sent) old new → IsInBounds new
+bounds_finished old new sent h made c = record {
+  begun = subst (λ n. 9 ≤ n) (sym c.consumed) h.begun;
+  ahead = λ g covered own. subst (λ n. g.version < n) (sym c.consumed) (ahead g (sym (c.vector.covering g) ∙ covered) (own ∙ c.own));
+  clocks = subst (AllByRecursion (λ u. u.clock < 2 ^ 62)) (sym c.records) h.clocks;
+}
+  where
+    ahead : (g : Gvsn) → both (covers old.vector) (covers sent) g ≡ true → g.db ≡ old.own → g.version < old.consumed
+    ahead g covered own = elim (both_cases (covers old.vector) (covers sent) g covered) [
+      | inl before ↦ h.ahead g before own
+      | inr new ↦ made g new own
+    ]

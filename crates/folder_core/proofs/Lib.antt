@@ -1,0 +1,11 @@
+pub mod Alike
+pub mod Volumes
+pub mod Held
+pub mod Bounds
+pub mod Agreeing
+pub mod Sounding
+pub mod Fitting
+pub mod Consuming
+pub mod Finishing
+pub mod Replaying
+pub mod OneAnswer

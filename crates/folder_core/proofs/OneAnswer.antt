@@ -1,0 +1,194 @@
+-- An event has one answer, and leads to one machine.
+use Rattle.std.proofs.Common.{◌≡◌, ◌≢◌, ◌<◌, ◌≤◌, ◌+◌, ◌||◌, ◌⊎◌, ℕ, Bool, true, false, ltb, List, [], ◌∷◌, length, Option, Some, None, Result, Ok, Err, refl, sym, ap, ◌∙◌, subst, inl, inr, arith}
+use Rattle.std.specs.Prelude.{MatchBool, MatchOption, MatchResult}
+use Rattle.std.proofs.lemmas.Bool.Decides.{nat_tests}
+use Rattle.frs_base.specs.declared.version.Gvsn.{Gvsn}
+use Rattle.version_vector.specs.Limits.{IsTooLong}
+use Rattle.version_vector.specs.Places.{one_version}
+use Rattle.version_vector.specs.Unions.{inserted}
+use Rattle.version_vector.specs.Versions.{IsCanonical, covers, inside}
+use Rattle.version_vector.specs.declared.errors.VectorError.TheVariants as vector
+use Rattle.version_vector.specs.declared.interval.Interval.{Interval}
+use Rattle.version_vector.proofs.Canonical.{or_assoc}
+use Rattle.version_vector.proofs.Insertions.{adds_version, covers-inserted, inserted_form}
+use Rattle.version_vector.proofs.Uniqueness.{unique}
+use Rattle.win_order.specs.declared.update.Update.{Update}
+use Rattle.vol_state.specs.declared.command.VolCmd.{VolCmd}
+use Rattle.vol_state.specs.declared.operation.Refused.{Refused}
+use Rattle.vol_state.specs.Paths.{resolve}
+use Rattle.record_db.specs.declared.command.BookCmd.{BookCmd}
+use Rattle.record_db.specs.declared.command.BookCmd.TheVariants as cmd
+use Rattle.record_db.specs.State.{BookState, IsVector}
+use Rattle.record_db.specs.Steps.{Changes, covered_after, own_version}
+use Rattle.record_db.specs.Records.{Versions}
+use Rattle.folder_core.specs.declared.event.Event.{Event}
+use Rattle.folder_core.specs.declared.event.Event.TheVariants as event
+use Rattle.folder_core.specs.declared.refusal.Refusal.{Refusal}
+use Rattle.folder_core.specs.declared.refusal.Refusal.TheVariants as why
+use Rattle.folder_core.specs.declared.reply.Reply.{Reply}
+use Rattle.folder_core.specs.declared.reply.Reply.TheVariants as reply
+use Rattle.folder_core.specs.Machine.{Machine, Refuses}
+use Rattle.folder_core.specs.Books.{Changed, IsFull, Takes}
+use Rattle.folder_core.specs.Local.{Operates}
+use Rattle.folder_core.specs.Consume.{AnswersRecord, is_at_end, made_at}
+use Rattle.folder_core.specs.Adopt.{adopt_refusal}
+use Rattle.folder_core.specs.Finish.{HasAhead, HasNoneAhead, IsLeastAhead, first_unheld}
+use Rattle.folder_core.specs.Answers.{Answers}
+use Rattle.folder_core.specs.Sound.{IsSound}
+use Rattle.folder_core.specs.Laws.{AnswersAreOne, Runs, RunsAreOne}
+
+-- two answers and what they lead to are one
+abbrev AreOne : Reply → Machine → Reply → Machine → Type 0
+AreOne a x b y = (a ≡ b) × (x ≡ y)
+
+-- ---- refusals and operations
+
+refusals_one : (old : Machine) (w : Refusal) (a b : Reply) (x y : Machine) → Refuses w old a x → Refuses w old b y → AreOne a x b y
+refusals_one old w a b x y (p, q) (r, s) = (p ∙ sym r, q ∙ sym s)
+
+operations_one : (old : Machine) (a b : Reply) (x y : Machine) (r : Result VolCmd Refused) → MatchResult r (λ op. Operates op old a x) (λ w. Refuses (why.Local w) old a x)
+    → MatchResult r (λ op. Operates op old b y) (λ w. Refuses (why.Local w) old b y) → AreOne a x b y
+operations_one old a b x y (Ok op) (p, q) (r, s) = (p ∙ sym r, q ∙ sym s)
+operations_one old a b x y (Err w) h k = refusals_one old (why.Local w) a b x y h k
+
+-- ---- vectors
+
+-- some list covers just a set
+abbrev IsCovered : Versions → Type 0
+IsCovered known = (list : List Interval) × IsVector known list
+
+empty_inside : (i : Interval) (h : Gvsn) → ltb i.low i.high ≡ false → inside i h ≡ false
+empty_inside i h e = grind (arith, nat_tests)
+
+covers_both : (old sent : List Interval) → IsCanonical old → IsCovered (λ h. covers sent h || covers old h)
+covers_both old [] form = (old, record { canonical = form; covering = λ h. refl })
+covers_both old (i ∷ rest) form = by (ltb i.low i.high) refl (covers_both old rest form)
+  where
+    by : (b : Bool) → ltb i.low i.high ≡ b → IsCovered (λ h. covers rest h || covers old h) → IsCovered (λ h. covers (i ∷ rest) h || covers old h)
+    by true e (list, v) =
+        let full : i.low < i.high = grind (arith, nat_tests) in (
+          inserted i list,
+          record {
+            canonical = inserted_form i list full v.canonical;
+            covering = λ h. covers-inserted i list full v.canonical h ∙ (ap (λ b. inside i h || b) (v.covering h) ∙ assoc (inside i h) (covers rest h) (covers old h));
+          },
+        )
+      where
+        assoc : (a b c : Bool) → (a || (b || c)) ≡ ((a || b) || c)
+        assoc true b c = refl
+        assoc false b c = refl
+    by false e (list, v) = (
+      list,
+      record {
+        canonical = v.canonical;
+        covering = λ h. v.covering h ∙ ap (λ b. (b || covers rest h) || covers old h) (sym (empty_inside i h e));
+      },
+    )
+
+covers_after : (op : BookCmd) (book : BookState) → IsCanonical book.vector → IsCovered (covered_after op book)
+covers_after (cmd.RecordLocal usn u) book form = (
+  inserted (one_version (own_version book usn)) book.vector,
+  record {
+    canonical = inserted_form (one_version (own_version book usn)) book.vector (omega arith) form;
+    covering = λ h. adds_version (own_version book usn) book.vector form h;
+  },
+)
+covers_after (cmd.Adopt u) book form = (
+  inserted (one_version u.gvsn) book.vector,
+  record {
+    canonical = inserted_form (one_version u.gvsn) book.vector (omega arith) form;
+    covering = λ h. adds_version u.gvsn book.vector form h;
+  },
+)
+covers_after (cmd.Finish sent) book form = covers_both book.vector sent form
+
+-- ---- commands on the book
+
+changes_one : (op : BookCmd) (old x y : BookState) → Changes op old x → Changes op old y → x ≡ y
+changes_one op old x y c d =
+    let vector = unique x.vector y.vector c.vector.canonical d.vector.canonical (λ h. c.vector.covering h ∙ sym (d.vector.covering h)) in
+    let kind = c.kind ∙ sym d.kind in
+    let own = c.own ∙ sym d.own in
+    let set = c.set ∙ sym d.set in
+    let records = c.records ∙ sym d.records in
+    let consumed = c.consumed ∙ sym d.consumed in
+    let phase = c.phase ∙ sym d.phase in
+    (λ i. record { kind = kind i; own = own i; set = set i; records = records i; vector = vector i; consumed = consumed i; phase = phase i })
+
+changed_one : (op : BookCmd) (old x y : Machine) → Changed op old x → Changed op old y → x ≡ y
+changed_one op old x y c d =
+    let volume = c.volume ∙ sym d.volume in
+    let book = changes_one op old.book x.book y.book c.book d.book in
+    (λ i. record { volume = volume i; book = book i })
+
+-- a vector that is too long isn't the one that is taken
+not_both : (op : BookCmd) (count : ℕ) (old x : Machine) → IsTooLong (vector.VectorFull count) (covered_after op old.book) → Changed op old x → ⊥
+not_both op count old x (over, each) c =
+    let long = each x.book.vector c.book.vector.canonical c.book.vector.covering in
+    let within = c.within in
+    omega (arith, over, long, within)
+
+counts_one : (op : BookCmd) (n m : ℕ) (old : Machine) → IsCanonical old.book.vector → IsTooLong (vector.VectorFull n) (covered_after op old.book) → IsTooLong (vector.VectorFull m) (covered_after op old.book) → n ≡ m
+counts_one op n m old form (over, each) (more, every) =
+    let (list, v) = covers_after op old.book form in
+    sym (each list v.canonical v.covering) ∙ every list v.canonical v.covering
+
+takes_one : (op : BookCmd) (done a b : Reply) (old x y : Machine) → IsCanonical old.book.vector → Takes op done old a x → Takes op done old b y → AreOne a x b y
+takes_one op done a b old x y form (inl (p, c)) (inl (q, d)) = (p ∙ sym q, changed_one op old x y c d)
+takes_one op done a b old x y form (inl (p, c)) (inr (n, full)) = absurd (not_both op n old x full.0 c)
+takes_one op done a b old x y form (inr (n, full)) (inl (q, d)) = absurd (not_both op n old y full.0 d)
+takes_one op done a b old x y form (inr (n, full)) (inr (m, over)) =
+    (full.1.0 ∙ (ap (λ k. reply.Refused (why.VectorFull k)) (counts_one op n m old form full.0 over.0) ∙ sym over.1.0), full.1.1 ∙ sym over.1.1)
+
+-- ---- events
+
+made_one : (b : Bool) (w : Refusal) (op : BookCmd) (done p q : Reply) (old x y : Machine) → IsCanonical old.book.vector → MatchBool b (Refuses w old p x) (Takes op done old p x)
+    → MatchBool b (Refuses w old q y) (Takes op done old q y) → AreOne p x q y
+made_one true w op done p q old x y form h k = refusals_one old w p q x y h k
+made_one false w op done p q old x y form h k = takes_one op done p q old x y form h k
+
+record_one : (made : Option Update) (p q : Reply) (old x y : Machine) → IsCanonical old.book.vector → AnswersRecord made old p x → AnswersRecord made old q y → AreOne p x q y
+record_one None p q old x y form h k = takes_one _ _ p q old x y form h k
+record_one (Some u) p q old x y form h k = made_one _ _ _ _ p q old x y form h k
+
+consume_one : (b : Bool) (made : Option Update) (p q : Reply) (old x y : Machine) → IsCanonical old.book.vector → MatchBool b ((p ≡ reply.Nothing) × (x ≡ old)) (AnswersRecord made old p x)
+    → MatchBool b ((q ≡ reply.Nothing) × (y ≡ old)) (AnswersRecord made old q y) → AreOne p x q y
+consume_one true made p q old x y form (a, b) (c, d) = (a ∙ sym c, b ∙ sym d)
+consume_one false made p q old x y form h k = record_one made p q old x y form h k
+
+choice_one : {T : Type 0} (found : Option T) (op : BookCmd) (done : Reply) (w : T → Refusal) (p q : Reply) (old x y : Machine) → IsCanonical old.book.vector
+    → MatchOption found (Takes op done old p x) (λ t. Refuses (w t) old p x) → MatchOption found (Takes op done old q y) (λ t. Refuses (w t) old q y) → AreOne p x q y
+choice_one None op done w p q old x y form h k = takes_one op done p q old x y form h k
+choice_one (Some t) op done w p q old x y form h k = refusals_one old (w t) p q x y h k
+
+least_one : (old : Machine) (sent : List Interval) (n m : ℕ) → IsLeastAhead old sent n → IsLeastAhead old sent m → n ≡ m
+least_one old sent n m h k =
+    let low = h.1 m k.0 in
+    let high = k.1 n h.0 in
+    omega (arith, low, high)
+
+-- so has every event
+pub answers_are_one : AnswersAreOne
+answers_are_one at old (event.Local operation) a b x y sound h k = operations_one old a b x y (resolve old.volume.objects operation) h k
+answers_are_one at old (event.Consume moment) a b x y sound h k = consume_one (is_at_end old) (made_at old moment) a b old x y sound.order.book.canonical h k
+answers_are_one at old event.Vector a b x y sound (p, q) (r, s) = (p ∙ sym r, q ∙ sym s)
+answers_are_one at old (event.File uid) a b x y sound (p, q) (r, s) = (p ∙ sym r, q ∙ sym s)
+answers_are_one at old (event.Adopt from place u form) a b x y sound h k = choice_one (adopt_refusal old u) _ _ (λ w. w) a b old x y sound.order.book.canonical h k
+answers_are_one at old (event.Finish from place sent seen) a b x y sound (inl (n, least, p)) (inl (m, lesser, q)) =
+    (p.0 ∙ (ap (λ k. reply.Refused (why.OwnAhead k)) (least_one old sent n m least lesser) ∙ sym q.0), p.1 ∙ sym q.1)
+answers_are_one at old (event.Finish from place sent seen) a b x y sound (inl (n, least, p)) (inr (none, k)) = absurd (none n least.0)
+answers_are_one at old (event.Finish from place sent seen) a b x y sound (inr (none, h)) (inl (m, least, q)) = absurd (none m least.0)
+answers_are_one at old (event.Finish from place sent seen) a b x y sound (inr (none, h)) (inr (never, k)) =
+    choice_one (first_unheld old.book.records seen) _ _ (λ u. why.Unheld u.uid) a b old x y sound.order.book.canonical h k
+
+-- and a run of events
+pub runs_are_one : RunsAreOne
+runs_are_one at old [] [] [] x y h k = (refl, h ∙ sym k)
+runs_are_one at old [] [] (r ∷ rs) x y h k = absurd k
+runs_are_one at old [] (r ∷ rs) b x y h k = absurd h
+runs_are_one at old (e ∷ es) [] b x y h k = absurd h
+runs_are_one at old (e ∷ es) (r ∷ rs) [] x y h k = absurd k
+runs_are_one at old (e ∷ es) (r ∷ rs) (s ∷ ss) x y (mid, sound, h, more) (next, too, k, rest) =
+    let one = answers_are_one at old e r s mid next sound h k in
+    let others = runs_are_one (at + 1) next es rs ss x y (subst (λ m. Runs (at + 1) m es rs x) one.1 more) rest in
+    ((λ i. one.0 i ∷ others.0 i), others.1)

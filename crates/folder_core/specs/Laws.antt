@@ -1,0 +1,22 @@
+-- Laws of the machine of a member.
+use Rattle.std.specs.Prelude.{◌≡◌, ◌+◌, ℕ, List, [], ◌∷◌}
+use Rattle.folder_core.specs.declared.event.Event.{Event}
+use Rattle.folder_core.specs.declared.reply.Reply.{Reply}
+use Rattle.folder_core.specs.Machine.{Machine}
+use Rattle.folder_core.specs.Answers.{Answers}
+use Rattle.folder_core.specs.Sound.{IsSound}
+
+-- an event has one answer, and leads to one machine
+abbrev pub AnswersAreOne : Type 0
+AnswersAreOne = (at : ℕ) (old : Machine) (event : Event) (a b : Reply) (x y : Machine) → IsSound old → Answers at old event a x → Answers at old event b y → (a ≡ b) × (x ≡ y)
+
+-- the events, from this place on, are answered so and lead from one machine to the other, over sound ones
+abbrev pub Runs : ℕ → Machine → List Event → List Reply → Machine → Type 0
+Runs at old [] [] new = new ≡ old
+Runs at old [] (r ∷ rs) new = ⊥
+Runs at old (e ∷ es) [] new = ⊥
+Runs at old (e ∷ es) (r ∷ rs) new = (mid : Machine) × IsSound old × Answers at old e r mid × Runs (at + 1) mid es rs new
+
+-- so a run of events has one list of answers, and leads to one machine
+abbrev pub RunsAreOne : Type 0
+RunsAreOne = (at : ℕ) (old : Machine) (events : List Event) (a b : List Reply) (x y : Machine) → Runs at old events a x → Runs at old events b y → (a ≡ b) × (x ≡ y)

@@ -1,0 +1,13 @@
+pub mod Machine
+pub mod Notes
+pub mod Books
+pub mod Local
+pub mod Consume
+pub mod Serve
+pub mod Adopt
+pub mod Finish
+pub mod Answers
+pub mod Sound
+pub mod Replay
+pub mod Given
+pub mod Laws

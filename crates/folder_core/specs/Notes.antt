@@ -1,0 +1,59 @@
+-- Events and replies as a history keeps them: contents are known by their sum alone, and what was pinned by its vector.
+use Rattle.std.specs.Prelude.{ℕ, List, Option, option_map}
+use Rattle.frs_base.specs.declared.kind.Kind.TheVariants as kind
+use Rattle.frs_base.specs.declared.sum.Sum.{Sum}
+use Rattle.vol_state.specs.declared.operation.LocalOp.{LocalOp}
+use Rattle.vol_state.specs.declared.operation.LocalOp.TheVariants as op
+use Rattle.name_rules.specs.Next.{content_sum}
+use Rattle.pinned_pages.specs.declared.answer.FileAnswer.{FileAnswer}
+use Rattle.pinned_pages.specs.declared.answer.FileAnswer.TheVariants as answer
+use Rattle.folder_core.specs.declared.event.Event.{Event}
+use Rattle.folder_core.specs.declared.event.Event.TheVariants as event
+use Rattle.folder_core.specs.declared.reply.Reply.{Reply}
+use Rattle.folder_core.specs.declared.reply.Reply.TheVariants as reply
+use Rattle.folder_core.specs.declared.note.LocalNote.{LocalNote}
+use Rattle.folder_core.specs.declared.note.LocalNote.TheVariants as local
+use Rattle.folder_core.specs.declared.note.Note.{Note}
+use Rattle.folder_core.specs.declared.note.Note.TheVariants as note
+use Rattle.folder_core.specs.declared.mark.FileMark.{FileMark}
+use Rattle.folder_core.specs.declared.mark.FileMark.TheVariants as file
+use Rattle.folder_core.specs.declared.mark.Mark.{Mark}
+use Rattle.folder_core.specs.declared.mark.Mark.TheVariants as mark
+
+-- the sum of a file's contents
+abbrev pub sum_of : List ℕ → Sum
+sum_of bytes = content_sum kind.File bytes
+
+-- a local operation
+abbrev pub local_note_of : LocalOp → LocalNote
+local_note_of (op.Put path bytes) = local.Put path (sum_of bytes)
+local_note_of (op.Mkdir path) = local.Mkdir path
+local_note_of (op.Move from to) = local.Move from to
+local_note_of (op.Remove path) = local.Remove path
+
+-- an event
+abbrev pub note_of : Event → Note
+note_of (event.Local operation) = note.Local (local_note_of operation)
+note_of (event.Consume moment) = note.Consume moment
+note_of event.Vector = note.Vector
+note_of (event.File uid) = note.File uid
+note_of (event.Adopt from at update form) = note.Adopt from at update (option_map sum_of form)
+note_of (event.Finish from at sent seen) = note.Finish from at sent seen
+
+-- an answer about a file
+abbrev pub file_mark_of : FileAnswer → FileMark
+file_mark_of (answer.Found at update) = file.Found at update
+file_mark_of (answer.NotYet usn) = file.NotYet usn
+file_mark_of answer.NoRecord = file.NoRecord
+
+-- a reply
+abbrev pub mark_of : Reply → Mark
+mark_of (reply.Usn usn) = mark.Usn usn
+mark_of (reply.Made gvsn) = mark.Made gvsn
+mark_of (reply.Skipped usn) = mark.Skipped usn
+mark_of reply.Nothing = mark.Nothing
+mark_of (reply.Sent pinned) = mark.Sent pinned.vector pinned.at
+mark_of (reply.File found) = mark.File (file_mark_of found)
+mark_of reply.Adopted = mark.Adopted
+mark_of reply.Finished = mark.Finished
+mark_of (reply.Refused why) = mark.Refused why

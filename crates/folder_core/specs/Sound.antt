@@ -1,0 +1,53 @@
+-- What is true of every member's machine, whatever its partners send.
+use Rattle.std.specs.Prelude.{◌≡◌, ◌<◌, ◌≤◌, ◌^◌, ℕ, true, Option}
+use Rattle.std.specs.List.{AllByRecursion}
+use Rattle.frs_base.specs.Identifiers.{content_set}
+use Rattle.frs_base.specs.declared.sum.Sum.{Sum}
+use Rattle.frs_base.specs.declared.version.Gvsn.{Gvsn}
+use Rattle.frs_base.specs.declared.version.Uid.{Uid}
+use Rattle.version_vector.specs.Versions.{covers}
+use Rattle.vol_state.specs.Journal.{IsNumbered}
+use Rattle.vol_state.specs.Laws.{AreFree}
+use Rattle.vol_state.specs.Maps.{maps_of}
+use Rattle.vol_state.specs.Valid.{IsVolume}
+use Rattle.record_db.specs.State.{BookState, IsBook}
+use Rattle.world_model.specs.Folder.{FolderIsSound}
+use Rattle.world_model.specs.World.{Member}
+use Rattle.folder_core.specs.Machine.{Machine}
+
+-- the machine as a member of the world, with these staged contents
+abbrev pub member_of : Machine → (Uid → Option Sum) → Member
+member_of m staged = record {
+  known = covers m.book.vector;
+  volume = maps_of m.volume;
+  consumed = m.book.consumed;
+  kind = m.book.kind;
+  phase = m.book.phase;
+  staged = staged;
+}
+
+-- the volume and the records agree, for some staged contents
+abbrev pub Agrees : Machine → Type 0
+Agrees m = (staged : Uid → Option Sum) × FolderIsSound m.book.own (member_of m staged) m.book.records
+
+-- no own version is covered that isn't consumed, and clocks stay below 2^62
+pub record IsInBounds (book : BookState) : Type 0 where
+  pub begun : 9 ≤ book.consumed
+  pub ahead : (g : Gvsn) → covers book.vector g ≡ true → g.db ≡ book.own → g.version < book.consumed
+  pub clocks : AllByRecursion (λ u. u.clock < 2 ^ 62) book.records
+
+-- the journal's USNs run from 9 without a gap up to the next, all numbers in use are below the next ones
+pub record IsInOrder (m : Machine) : Type 0 where
+  pub own : m.volume.own ≡ m.book.own
+  pub volume : IsVolume m.volume
+  pub numbered : IsNumbered m.volume
+  pub free : AreFree m.volume
+  pub fids : m.volume.next_fid ≤ m.volume.next_usn
+  pub book : IsBook m.book
+  pub consumed : m.book.consumed ≤ m.volume.next_usn
+
+-- all of that
+pub record IsSound (m : Machine) : Type 0 where
+  pub order : IsInOrder m
+  pub bounds : IsInBounds m.book
+  pub agrees : m.book.set ≡ content_set → Agrees m

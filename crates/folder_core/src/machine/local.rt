@@ -1,0 +1,96 @@
+// Local operations.
+ghost use Rattle.std.specs.Prelude.{◌≡◌, ◌<◌, ◌-◌, ◌^◌, true, IfOk, IsOk, Ok, OnErr, OnOk};
+ghost use Rattle.vol_state.specs.Conditions.{is_allowed};
+ghost use Rattle.vol_state.specs.Effects.{effect};
+ghost use Rattle.vol_state.specs.Laws.{KeepsNumbering, LeavesNumbersFree};
+ghost use Rattle.vol_state.specs.Maps.{StandsOn, maps_of};
+ghost use Rattle.vol_state.specs.Paths.{check, resolve};
+ghost use Rattle.vol_state.specs.Tables.{IsLocal};
+ghost use Rattle.vol_state.specs.Ways.{ListsResolve, ResolvedMay};
+ghost use Rattle.folder_core.specs.Local.{AnswersLocal};
+ghost use Rattle.folder_core.specs.Given.{IsNoted};
+
+use super::Machine;
+use crate::answer::Answer;
+use crate::{Mark, Refusal, Reply};
+use std::alloc::{AllocError, Global};
+use vol_state::{
+    LocalOp, VolCmd, lists_resolve_as_maps, lists_stand_for_maps, resolved_commands_may_be_done,
+    steps_keep_the_numbering, steps_leave_numbers_free,
+};
+
+/// What the volume promises of operations by path.
+fn path_laws()
+    ensures resolve { ListsResolve }
+    ensures may { ResolvedMay }
+{
+    lists_resolve_as_maps();
+    resolved_commands_may_be_done();
+}
+
+/// What the volume promises of the steps of commands.
+fn step_laws()
+    ensures on { StandsOn }
+    ensures numbering { KeepsNumbering }
+    ensures free { LeavesNumbersFree }
+{
+    lists_stand_for_maps();
+    steps_keep_the_numbering();
+    steps_leave_numbers_free();
+}
+
+impl Machine {
+    /// The command of an operation that isn't refused.
+    fn command(&self, alloc: Global, operation: LocalOp) -> Result<VolCmd, AllocError>
+        requires { IsOk (check self.now.volume.objects operation) }
+        ensures command { IfOk result (λ cmd. resolve self.now.volume.objects operation ≡ Ok cmd) }
+        ensures allowed { IfOk result (λ cmd. is_allowed cmd self.now.volume ≡ true) }
+    {
+        match operation {
+            LocalOp::Put { path, bytes } => {
+                self.volume.put(alloc, path.as_slice(), bytes.into_vec())
+            }
+            LocalOp::Mkdir { path } => self.volume.mkdir(alloc, path.as_slice()),
+            LocalOp::Move { from, to } => {
+                self.volume.move_to(alloc, from.as_slice(), to.as_slice())
+            }
+            LocalOp::Remove { path } => Ok(self.volume.remove(path.as_slice())),
+        }
+    }
+
+    /// Does the command of a local operation. After an error the machine is as it was.
+    fn operate(&mut self, alloc: Global, cmd: VolCmd) -> Result<(), AllocError>
+        requires allowed { is_allowed cmd self.old.volume ≡ true }
+        requires local { IsLocal (maps_of self.old.volume) cmd }
+        requires numbers { self.old.volume.next_usn < 2 ^ 64 - 1 }
+        ensures ok { OnOk result (self.new ≡ record self.old { volume = effect cmd self.old.volume }) }
+        ensures err { OnErr result (self.new ≡ self.old) }
+    {
+        let ready = self.volume.ready(alloc, cmd)?;
+        self.volume.take(ready);
+        let _ = self.volume.objects();
+        step_laws();
+        Ok(())
+    }
+
+    /// A local operation.
+    pub(crate) fn local(&mut self, alloc: Global, operation: LocalOp) -> Result<Answer, AllocError>
+        requires { self.old.volume.next_usn < 2 ^ 64 - 1 }
+        ensures answers { IfOk result (λ answer. AnswersLocal operation self.old answer.reply self.new) }
+        ensures noted { IfOk result (λ answer. IsNoted answer self.old self.new) }
+        ensures err { OnErr result (self.new ≡ self.old) }
+    {
+        if let Err(why) = self.volume.check(&operation) {
+            return Ok(Answer::refused(&Refusal::Local(why)));
+        }
+        let usn = self.volume.next_usn();
+        let cmd = self.command(alloc, operation)?;
+        path_laws();
+        self.operate(alloc, cmd)?;
+        Ok(Answer {
+            reply: Reply::Usn(usn),
+            mark: Mark::Usn(usn),
+            moved: false,
+        })
+    }
+}

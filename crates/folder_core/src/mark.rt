@@ -1,0 +1,80 @@
+// Replies as a history keeps them.
+ghost use Rattle.std.specs.Prelude.{◌≡◌, IfOk};
+
+use crate::Refusal;
+use frs_base::Gvsn;
+use std::alloc::{AllocError, Global};
+use version_vector::Vector;
+use win_order::Update;
+
+/// What a member answered of a file.
+#[derive(Debug, Drop, PartialEq, Eq)]
+pub enum FileMark {
+    /// Its record, as of the entry `at` of the history.
+    Found { at: u64, update: Update },
+    /// The journal record with this USN is to be consumed first.
+    NotYet { usn: u64 },
+    /// There is no record of it.
+    NoRecord,
+}
+
+/// A reply with a pinned state's vector in its place.
+#[derive(Debug, Drop)]
+pub enum Mark {
+    /// A local operation got this USN.
+    Usn(u64),
+    /// A journal record made the update of this version.
+    Made(Gvsn),
+    /// The journal record with this USN made no update.
+    Skipped(u64),
+    /// No journal record was left to consume.
+    Nothing,
+    /// What the member covered as of the entry `at` of its history.
+    Sent { vector: Vector, at: u64 },
+    /// What it had of a file.
+    File(FileMark),
+    /// An update was taken.
+    Adopted,
+    /// A round was finished.
+    Finished,
+    /// The event changed nothing.
+    Refused(Refusal),
+}
+
+impl FileMark {
+    /// The same mark in memory of its own.
+    pub fn copy(&self, alloc: Global) -> Result<FileMark, AllocError>
+        ensures { IfOk result (λ mark. mark ≡ self.now) }
+    {
+        Ok(match self {
+            FileMark::Found { at, update } => FileMark::Found {
+                at: *at,
+                update: update.copy(alloc)?,
+            },
+            FileMark::NotYet { usn } => FileMark::NotYet { usn: *usn },
+            FileMark::NoRecord => FileMark::NoRecord,
+        })
+    }
+}
+
+impl Mark {
+    /// The same mark in memory of its own.
+    pub fn copy(&self, alloc: Global) -> Result<Mark, AllocError>
+        ensures { IfOk result (λ mark. mark ≡ self.now) }
+    {
+        Ok(match self {
+            Mark::Usn(usn) => Mark::Usn(*usn),
+            Mark::Made(gvsn) => Mark::Made(*gvsn),
+            Mark::Skipped(usn) => Mark::Skipped(*usn),
+            Mark::Nothing => Mark::Nothing,
+            Mark::Sent { vector, at } => Mark::Sent {
+                vector: vector.copy(alloc)?,
+                at: *at,
+            },
+            Mark::File(found) => Mark::File(found.copy(alloc)?),
+            Mark::Adopted => Mark::Adopted,
+            Mark::Finished => Mark::Finished,
+            Mark::Refused(why) => Mark::Refused(*why),
+        })
+    }
+}

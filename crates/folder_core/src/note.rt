@@ -1,0 +1,180 @@
+// Events as a history keeps them.
+ghost use Rattle.std.specs.Prelude.{◌≡◌, IfOk};
+ghost use Rattle.folder_core.specs.Notes.{local_note_of, note_of, sum_of};
+
+use crate::Event;
+use crate::copies::{copy_names, copy_updates};
+use frs_base::{Bytes, Guid, List, Name, Sum, Uid};
+use std::alloc::{AllocError, Global};
+use version_vector::Vector;
+use vol_state::LocalOp;
+use win_order::Update;
+
+/// A local operation with the sum of contents in their place.
+#[derive(Debug, Drop, PartialEq, Eq)]
+pub enum LocalNote {
+    /// A put.
+    Put { path: List<Name>, sum: Sum },
+    /// A mkdir.
+    Mkdir { path: List<Name> },
+    /// A move.
+    Move { from: List<Name>, to: List<Name> },
+    /// A remove.
+    Remove { path: List<Name> },
+}
+
+/// An event with the sum of contents in their place.
+#[derive(Debug, Drop)]
+pub enum Note {
+    /// An operation on its files.
+    Local(LocalNote),
+    /// A journal record consumed, at this moment.
+    Consume {
+        moment: u64,
+    },
+    /// What it covers was asked for.
+    Vector,
+    /// A file was asked for.
+    File {
+        uid: Uid,
+    },
+    /// An update that the member of the database `from` sent in the entry `at` of its history.
+    Adopt {
+        from: Guid,
+        at: u64,
+        update: Update,
+        form: Option<Sum>,
+    },
+    /// A round over the vector that the member of the database `from` sent in the entry `at` of its
+    /// history.
+    Finish {
+        from: Guid,
+        at: u64,
+        sent: Vector,
+        seen: List<Update>,
+    },
+}
+
+/// The sum of a file's contents: all zero, until contents have one.
+fn sum_of(bytes: &Bytes) -> Sum
+    ensures { result ≡ sum_of bytes.now }
+{
+    let _ = bytes;
+    Sum([0; 20])
+}
+
+impl LocalNote {
+    /// The note of an operation.
+    pub(crate) fn of(alloc: Global, operation: &LocalOp) -> Result<LocalNote, AllocError>
+        ensures { IfOk result (λ note. note ≡ local_note_of operation.now) }
+    {
+        Ok(match operation {
+            LocalOp::Put { path, bytes } => LocalNote::Put {
+                path: copy_names(alloc, path.as_slice())?,
+                sum: sum_of(bytes),
+            },
+            LocalOp::Mkdir { path } => LocalNote::Mkdir {
+                path: copy_names(alloc, path.as_slice())?,
+            },
+            LocalOp::Move { from, to } => LocalNote::Move {
+                from: copy_names(alloc, from.as_slice())?,
+                to: copy_names(alloc, to.as_slice())?,
+            },
+            LocalOp::Remove { path } => LocalNote::Remove {
+                path: copy_names(alloc, path.as_slice())?,
+            },
+        })
+    }
+
+    /// The same note in memory of its own.
+    pub fn copy(&self, alloc: Global) -> Result<LocalNote, AllocError>
+        ensures { IfOk result (λ note. note ≡ self.now) }
+    {
+        Ok(match self {
+            LocalNote::Put { path, sum } => LocalNote::Put {
+                path: copy_names(alloc, path.as_slice())?,
+                sum: *sum,
+            },
+            LocalNote::Mkdir { path } => LocalNote::Mkdir {
+                path: copy_names(alloc, path.as_slice())?,
+            },
+            LocalNote::Move { from, to } => LocalNote::Move {
+                from: copy_names(alloc, from.as_slice())?,
+                to: copy_names(alloc, to.as_slice())?,
+            },
+            LocalNote::Remove { path } => LocalNote::Remove {
+                path: copy_names(alloc, path.as_slice())?,
+            },
+        })
+    }
+}
+
+impl Note {
+    /// The note of an event.
+    pub(crate) fn of(alloc: Global, event: &Event) -> Result<Note, AllocError>
+        ensures { IfOk result (λ note. note ≡ note_of event.now) }
+    {
+        Ok(match event {
+            Event::Local(operation) => Note::Local(LocalNote::of(alloc, operation)?),
+            Event::Consume { moment } => Note::Consume { moment: *moment },
+            Event::Vector => Note::Vector,
+            Event::File { uid } => Note::File { uid: *uid },
+            Event::Adopt {
+                from,
+                at,
+                update,
+                form,
+            } => Note::Adopt {
+                from: *from,
+                at: *at,
+                update: update.copy(alloc)?,
+                form: form.as_ref().map(sum_of),
+            },
+            Event::Finish {
+                from,
+                at,
+                sent,
+                seen,
+            } => Note::Finish {
+                from: *from,
+                at: *at,
+                sent: sent.copy(alloc)?,
+                seen: copy_updates(alloc, seen.as_slice())?,
+            },
+        })
+    }
+
+    /// The same note in memory of its own.
+    pub fn copy(&self, alloc: Global) -> Result<Note, AllocError>
+        ensures { IfOk result (λ note. note ≡ self.now) }
+    {
+        Ok(match self {
+            Note::Local(operation) => Note::Local(operation.copy(alloc)?),
+            Note::Consume { moment } => Note::Consume { moment: *moment },
+            Note::Vector => Note::Vector,
+            Note::File { uid } => Note::File { uid: *uid },
+            Note::Adopt {
+                from,
+                at,
+                update,
+                form,
+            } => Note::Adopt {
+                from: *from,
+                at: *at,
+                update: update.copy(alloc)?,
+                form: *form,
+            },
+            Note::Finish {
+                from,
+                at,
+                sent,
+                seen,
+            } => Note::Finish {
+                from: *from,
+                at: *at,
+                sent: sent.copy(alloc)?,
+                seen: copy_updates(alloc, seen.as_slice())?,
+            },
+        })
+    }
+}

@@ -1,0 +1,51 @@
+// Why an event changes nothing.
+use frs_base::{Gvsn, Kind, Uid};
+use std::error::Error;
+use std::fmt;
+use vol_state::Refused;
+use win_order::{Key, Unfit};
+
+/// Why an event changes nothing. The refusals of one event are looked at in this order.
+#[derive(Clone, Copy, Debug, PartialEq, Eq)]
+pub enum Refusal {
+    /// A local operation isn't possible.
+    Local(Refused),
+    /// The clock of the update that a journal record makes would be 2^62 or more.
+    Skewed { clock: u64 },
+    /// An update isn't one that a member takes.
+    Unfit(Unfit),
+    /// An update, its file or a vector has a version of the member's own database that the member
+    /// hasn't consumed.
+    OwnAhead { version: u64 },
+    /// An update is of a directory where the member has a file, or the other way round.
+    KindDiffers { held: Kind },
+    /// The member's record of the file, with this key, stands against the update.
+    Beaten { held: Key },
+    /// The member covers the version of an update that isn't its record.
+    Doubled { gvsn: Gvsn },
+    /// An update of the round's pages, of this file, is neither held nor beaten.
+    Unheld { uid: Uid },
+    /// The vector would have this many intervals, more than 65,536.
+    VectorFull { count: u64 },
+}
+
+impl fmt::Display for Refusal {
+    fn fmt<W: fmt::Write>(&self, f: &mut fmt::Formatter<W>) -> fmt::Result {
+        match self {
+            Refusal::Local(why) => write!(f, "{why}"),
+            Refusal::Skewed { clock } => write!(f, "the clock {clock} is too far ahead"),
+            Refusal::Unfit(why) => write!(f, "{why}"),
+            Refusal::OwnAhead { version } => write!(f, "the own version {version} isn't made yet"),
+            Refusal::KindDiffers { held } => match held {
+                Kind::File => write!(f, "a directory in place of a file"),
+                Kind::Directory => write!(f, "a file in place of a directory"),
+            },
+            Refusal::Beaten { held: _ } => write!(f, "the record that is held stands"),
+            Refusal::Doubled { gvsn } => write!(f, "version {} is covered", gvsn.version),
+            Refusal::Unheld { uid } => write!(f, "the file {} isn't held", uid.version),
+            Refusal::VectorFull { count } => write!(f, "a vector of {count} intervals"),
+        }
+    }
+}
+
+impl Error for Refusal {}

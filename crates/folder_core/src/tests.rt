@@ -1,0 +1,407 @@
+// What no contract says: that the calls succeed, and members written out by hand.
+ghost use Rattle.std.specs.Prelude.{IfOk};
+ghost use Rattle.folder_core.specs.Replay.{IsEarlyEvent};
+
+use super::*;
+use frs_base::{
+    Bytes, Guid, Gvsn, List, MemberKind, Name, Phase, Sum, Uid, content_set, database_of,
+};
+use pinned_pages::FileAnswer;
+use std::alloc::Global;
+use std::process::Abort;
+use std::test::Fail;
+use version_vector::{Interval, Vector};
+use vol_state::LocalOp;
+use win_order::Update;
+
+fn name_of(alloc: Global, text: &str) -> Result<Name, Fail> {
+    let mut units = Vec::new(alloc);
+    for byte in text.as_bytes() {
+        units.push(u16::from(*byte))?;
+    }
+    Ok(Name::from_units(alloc, &units)?)
+}
+
+/// A path of one name.
+fn path_of(alloc: Global, text: &str) -> Result<List<Name>, Fail> {
+    let mut names = Vec::new(alloc);
+    names.push(name_of(alloc, text)?)?;
+    Ok(List::of(names))
+}
+
+/// `put NAME TEXT`, `move NAME NAME`, `mkdir NAME` or `remove NAME`.
+fn operation(alloc: Global, word: &str, rest: &str) -> Result<Option<LocalOp>, Fail> {
+    if word == "mkdir" {
+        let path = path_of(alloc, rest)?;
+        return Ok(Some(LocalOp::Mkdir { path }));
+    }
+    if word == "remove" {
+        let path = path_of(alloc, rest)?;
+        return Ok(Some(LocalOp::Remove { path }));
+    }
+    let Some((name, text)) = rest.split_once(' ') else {
+        return Ok(None);
+    };
+    let path = path_of(alloc, name)?;
+    if word == "put" {
+        let bytes = Bytes::of(Vec::from_slice(alloc, text.as_bytes())?);
+        return Ok(Some(LocalOp::Put { path, bytes }));
+    }
+    if word == "move" {
+        let to = path_of(alloc, text)?;
+        return Ok(Some(LocalOp::Move { from: path, to }));
+    }
+    Ok(None)
+}
+
+fn version_of(member: u64, version: u64) -> Gvsn {
+    Gvsn {
+        db: database_of(member),
+        version,
+    }
+}
+
+fn file_of(member: u64, version: u64) -> Uid {
+    Uid {
+        db: database_of(member),
+        version,
+    }
+}
+
+/// An update of this file, made by this version at this clock; the word says of what: a `file`, a
+/// `directory`, or a file of a `foreign` content set.
+fn update_of(alloc: Global, word: &str, gvsn: Gvsn, uid: Uid, clock: u64) -> Result<Update, Fail> {
+    Ok(Update {
+        present: true,
+        name_conflict: false,
+        attributes: if word == "directory" { 0x10 } else { 0x20 },
+        fence: 3,
+        clock,
+        created: 100,
+        set: if word == "foreign" {
+            Guid::of_number(5)
+        } else {
+            content_set()
+        },
+        hash: Sum([0; 20]),
+        similarity: [0; 16],
+        uid,
+        gvsn,
+        parent: file_of(0, 1),
+        name: name_of(alloc, "x")?,
+        flags: 0,
+    })
+}
+
+fn adopt(update: Update) -> Event
+    ensures { IsEarlyEvent result }
+{
+    Event::Adopt {
+        from: database_of(2),
+        at: 1,
+        update,
+        form: None,
+    }
+}
+
+fn finish(sent: Vector, seen: Vec<Update>) -> Event
+    ensures { IsEarlyEvent result }
+{
+    Event::Finish {
+        from: database_of(2),
+        at: 1,
+        sent,
+        seen: List::of(seen),
+    }
+}
+
+fn consume(moment: u64) -> Result<Event, Fail>
+    ensures { IfOk result IsEarlyEvent }
+{
+    if moment < 1 << 61 {
+        Ok(Event::Consume { moment })
+    } else {
+        Err("a late moment")?
+    }
+}
+
+/// The numbers of a line, parted by spaces.
+fn numbers_of(alloc: Global, text: &str) -> Result<Vec<u64>, Fail> {
+    let mut numbers = Vec::new(alloc);
+    for word in text.split(' ') {
+        numbers.push(word.parse::<u64>()?)?;
+    }
+    Ok(numbers)
+}
+
+/// The vector of this many single versions of the second member, no two of which touch.
+fn wide(alloc: Global, count: u64) -> Result<Vector, Fail> {
+    let db = database_of(2);
+    let mut intervals = Vec::new(alloc);
+    let mut low = 100;
+    for _ in 0..count {
+        if low > 1 << 60 {
+            return Err("a vector too wide")?;
+        }
+        let high = low + 1;
+        intervals.push(Interval { db, low, high })?;
+        low += 2;
+    }
+    Ok(Vector::of(alloc, &intervals)?)
+}
+
+/// `consume MOMENT`, `wide COUNT`, `get MEMBER BORN`, `finish MEMBER LOW HIGH`; an update, which is
+/// `MEMBER VERSION MEMBER BORN CLOCK`, behind its word; or `seen` and an update.
+fn numbered(alloc: Global, word: &str, numbers: &[u64]) -> Result<Event, Fail>
+    ensures { IfOk result IsEarlyEvent }
+{
+    match numbers {
+        [moment] if word == "consume" => consume(*moment),
+        [count] => Ok(finish(wide(alloc, *count)?, Vec::new(alloc))),
+        [member, born] => Ok(Event::File {
+            uid: file_of(*member, *born),
+        }),
+        [member, low, high] => {
+            let part = Interval {
+                db: database_of(*member),
+                low: *low,
+                high: *high,
+            };
+            Ok(finish(Vector::of(alloc, &[part])?, Vec::new(alloc)))
+        }
+        [member, version, maker, born, clock] => {
+            let (gvsn, uid) = (version_of(*member, *version), file_of(*maker, *born));
+            let update = update_of(alloc, word, gvsn, uid, *clock)?;
+            if word == "seen" {
+                let mut seen = Vec::new(alloc);
+                seen.push(update)?;
+                return Ok(finish(Vector::empty(), seen));
+            }
+            Ok(adopt(update))
+        }
+        _ => Err("no event")?,
+    }
+}
+
+/// The event of a line.
+fn event_of(alloc: Global, line: &str) -> Result<Event, Fail>
+    ensures { IfOk result IsEarlyEvent }
+{
+    let Some((word, rest)) = line.split_once(' ') else {
+        return Ok(Event::Vector);
+    };
+    if let Some(operation) = operation(alloc, word, rest)? {
+        return Ok(Event::Local(operation));
+    }
+    let numbers = numbers_of(alloc, rest)?;
+    numbered(alloc, word, numbers.as_slice())
+}
+
+fn answer_text(alloc: Global, answer: &FileAnswer) -> Result<String, Fail> {
+    Ok(match answer {
+        FileAnswer::Found { at, update } => {
+            let version = update.gvsn.version;
+            format!(in alloc; "found {version} at {at}")?
+        }
+        FileAnswer::NotYet { usn } => format!(in alloc; "not yet {usn}")?,
+        FileAnswer::NoRecord => String::from_str(alloc, "no record")?,
+    })
+}
+
+fn text_of(alloc: Global, reply: &Reply) -> Result<String, Fail> {
+    Ok(match reply {
+        Reply::Usn(usn) => format!(in alloc; "usn {usn}")?,
+        Reply::Made(gvsn) => {
+            let version = gvsn.version;
+            format!(in alloc; "made {version}")?
+        }
+        Reply::Skipped(usn) => format!(in alloc; "skipped {usn}")?,
+        Reply::Nothing => String::from_str(alloc, "nothing")?,
+        Reply::Sent(pinned) => {
+            let (parts, records) = (
+                pinned.vector.intervals().len(),
+                pinned.records.as_slice().len(),
+            );
+            let at = pinned.at;
+            format!(in alloc; "sent {parts} of {records} at {at}")?
+        }
+        Reply::File(answer) => answer_text(alloc, answer)?,
+        Reply::Adopted => String::from_str(alloc, "adopted")?,
+        Reply::Finished => String::from_str(alloc, "finished")?,
+        Reply::Refused(why) => format!(in alloc; "{why}")?,
+    })
+}
+
+/// Next USN, what is consumed next, how many intervals and records, and the generation.
+fn state_text(alloc: Global, folder: &Folder) -> Result<String, Fail> {
+    let book = folder.book();
+    let (next, consumed) = (folder.volume().next_usn(), book.consumed());
+    let (parts, records) = (book.vector().intervals().len(), book.records().len());
+    let generation = folder.generation();
+    Ok(format!(in alloc; "{next} {consumed} {parts} {records} {generation}")?)
+}
+
+/// Each row is an event, its reply, and what the folder is then.
+fn try_rows(rt: &impl Abort, alloc: Global, folder: &mut Folder, rows: &str) -> Result<(), Fail> {
+    for row in rows.lines() {
+        let (line, wanted) = row.split_once(" -> ").ok_or("no arrow")?;
+        let (said, state) = wanted.split_once(" | ").ok_or("no state")?;
+        let length = folder.history().len();
+        let reply = folder.event(alloc, 7, event_of(alloc, line)?)?;
+        assert_eq!(rt; text_of(alloc, &reply)?.as_str(), said, "{line}");
+        assert_eq!(rt; state_text(alloc, folder)?.as_str(), state, "{line}");
+        assert!(rt; length < folder.history().len(), "{line}");
+    }
+    Ok(())
+}
+
+fn primary() -> Folder {
+    Folder::new(MemberKind::Primary, database_of(1), content_set())
+}
+
+/// A directory made, moved and removed: the move's record is passed, since a later one is there.
+#[test]
+fn moved_and_removed(rt: HostRuntime) -> Result<(), Fail> {
+    let mut folder = primary();
+    try_rows(
+        &rt,
+        rt.alloc(),
+        &mut folder,
+        "mkdir d -> usn 9 | 10 9 0 0 0
+consume 10 -> made 9 | 10 10 1 1 2
+move d e -> usn 10 | 11 10 1 1 2
+remove e -> usn 11 | 12 10 1 1 2
+consume 11 -> skipped 10 | 12 11 1 1 5
+consume 12 -> made 11 | 12 12 1 1 6
+consume 13 -> nothing | 12 12 1 1 6",
+    )?;
+    let [record] = folder.book().records() else {
+        return Err("one record")?;
+    };
+    assert!(rt; !record.present && record.uid == file_of(1, 9) && record.is_directory());
+    assert!(rt; record.fence == 2 && record.clock == 12 && record.created == 10);
+    Ok(())
+}
+
+#[test]
+fn local_refusals(rt: HostRuntime) -> Result<(), Fail> {
+    try_rows(
+        &rt,
+        rt.alloc(),
+        &mut primary(),
+        "remove f -> no such path | 9 9 0 0 0
+put f 1 -> usn 9 | 10 9 0 0 0
+mkdir F -> the name is taken | 10 9 0 0 0
+move f f -> usn 10 | 11 9 0 0 0",
+    )
+}
+
+/// A partner set the clock of an own file as far as it may: the next change is refused.
+#[test]
+fn skewed(rt: HostRuntime) -> Result<(), Fail> {
+    try_rows(
+        &rt,
+        rt.alloc(),
+        &mut primary(),
+        "put x 1 -> usn 9 | 10 9 0 0 0
+consume 10 -> made 9 | 10 10 1 1 2
+file 2 12 1 9 4611686018427387903 -> adopted | 10 10 2 1 3
+put x 2 -> usn 10 | 11 10 2 1 3
+consume 20 -> the clock 4611686018427387904 is too far ahead | 11 10 2 1 3",
+    )
+}
+
+#[test]
+fn what_is_asked_for(rt: HostRuntime) -> Result<(), Fail> {
+    let alloc = rt.alloc();
+    let mut folder = primary();
+    try_rows(
+        &rt,
+        alloc,
+        &mut folder,
+        "put x 1 -> usn 9 | 10 9 0 0 0
+get 1 9 -> no record | 10 9 0 0 0
+consume 10 -> made 9 | 10 10 1 1 3
+get 1 9 -> found 9 at 4 | 10 10 1 1 3
+put x 2 -> usn 10 | 11 10 1 1 3
+put x 3 -> usn 11 | 12 10 1 1 3
+get 1 9 -> not yet 11 | 12 10 1 1 3
+vector -> sent 1 of 1 at 8 | 12 10 1 1 3",
+    )?;
+    for entry in folder.history() {
+        assert!(rt; entry.copy(alloc)?.caller == 7);
+    }
+    assert!(rt; folder.history().len() == 8 && folder.book().phase() == Phase::Initial);
+    Ok(())
+}
+
+/// Each refusal of an update, by the record that is held and without one.
+#[test]
+fn adopt_refusals(rt: HostRuntime) -> Result<(), Fail> {
+    try_rows(
+        &rt,
+        rt.alloc(),
+        &mut primary(),
+        "put f 1 -> usn 9 | 10 9 0 0 0
+foreign 2 9 2 9 10 -> of another content set | 10 9 0 0 0
+file 1 9 2 9 10 -> the own version 9 isn't made yet | 10 9 0 0 0
+file 2 9 1 9 10 -> the own version 9 isn't made yet | 10 9 0 0 0
+consume 10 -> made 9 | 10 10 1 1 5
+file 2 10 2 9 10 -> adopted | 10 10 2 2 6
+directory 2 11 2 9 9 -> a directory in place of a file | 10 10 2 2 6
+file 2 11 2 9 9 -> the record that is held stands | 10 10 2 2 6
+file 2 10 2 9 10 -> the record that is held stands | 10 10 2 2 6
+file 2 11 2 9 11 -> adopted | 10 10 2 2 10
+file 2 10 2 8 12 -> version 10 is covered | 10 10 2 2 10",
+    )
+}
+
+/// An update of the other kind than the member's object, of which no record is held.
+#[test]
+fn kind_of_an_object(rt: HostRuntime) -> Result<(), Fail> {
+    try_rows(
+        &rt,
+        rt.alloc(),
+        &mut primary(),
+        "mkdir d -> usn 9 | 10 9 0 0 0
+move d g -> usn 10 | 11 9 0 0 0
+consume 10 -> skipped 9 | 11 10 1 0 3
+file 2 9 1 9 10 -> a file in place of a directory | 11 10 1 0 3
+directory 2 9 1 9 10 -> adopted | 11 10 2 1 5",
+    )
+}
+
+#[test]
+fn finish_and_its_refusals(rt: HostRuntime) -> Result<(), Fail> {
+    let mut folder = primary();
+    try_rows(
+        &rt,
+        rt.alloc(),
+        &mut folder,
+        "put f 1 -> usn 9 | 10 9 0 0 0
+consume 10 -> made 9 | 10 10 1 1 2
+finish 1 3 40 -> the own version 10 isn't made yet | 10 10 1 1 2
+finish 1 20 40 -> the own version 20 isn't made yet | 10 10 1 1 2
+seen 2 9 2 9 10 -> the file 9 isn't held | 10 10 1 1 2
+seen 1 9 1 9 1 -> the file 9 isn't held | 10 10 1 1 2
+finish 2 9 12 -> finished | 10 10 2 1 7
+finish 2 9 11 -> finished | 10 10 2 1 7",
+    )?;
+    assert!(rt; folder.book().phase() == Phase::Normal);
+    Ok(())
+}
+
+/// A vector of 65,536 intervals is taken, and nothing that would make it longer.
+#[test]
+fn vector_full(rt: HostRuntime) -> Result<(), Fail> {
+    try_rows(
+        &rt,
+        rt.alloc(),
+        &mut primary(),
+        "wide 65537 -> a vector of 65537 intervals | 9 9 0 0 0
+wide 65536 -> finished | 9 9 65536 0 2
+file 3 9 2 9 10 -> a vector of 65537 intervals | 9 9 65536 0 2
+put f 1 -> usn 9 | 10 9 65536 0 2
+consume 10 -> a vector of 65537 intervals | 10 9 65536 0 2",
+    )
+}

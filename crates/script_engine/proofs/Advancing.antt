@@ -1,0 +1,72 @@
+-- What an event at one member makes of its machine and of the world.
+use Rattle.std.proofs.Common.{◌≡◌, ◌≢◌, ◌<◌, ◌≤◌, ◌+◌, ◌-◌, ℕ, true, false, List, ◌∷◌, [], ◌++◌, length, set, refl, sym, ap, ◌∙◌, subst, arith, Some}
+use Rattle.std.specs.Prelude.{slice_get, sum_by}
+use Rattle.std.proofs.lemmas.List.{length-set}
+use Rattle.std.proofs.lemmas.Option.{slice_get_within}
+use Rattle.frs_base.specs.Identifiers.{database_of}
+use Rattle.frs_base.specs.Options.{In}
+use Rattle.win_order.specs.declared.update.Update.{Update}
+use Rattle.record_db.proofs.Standing.{stays_standing}
+use Rattle.world_model.specs.World.{Member, World}
+use Rattle.world_model.specs.Invariant.{Invariant}
+use Rattle.folder_core.specs.Machine.{Machine}
+use Rattle.script_engine.specs.Scene.{Scene, in_world}
+use Rattle.script_engine.specs.Sound.{IsNobodys, IsSoundScene, IsSoundWorld}
+use Rattle.script_engine.specs.Standing.{AreOurs, HaveRoom, MachineStands, MachinesStand, consumed_in, made_in}
+use Rattle.script_engine.proofs.Pairs.{get_set_cases, in_sum, sum_less, sum_set}
+use Rattle.script_engine.proofs.Passing.{Passes}
+
+-- the member of the database went on, and its machine with it; all others stay
+pub record Goes (w : World) (d : ℕ) (m new : Machine) (after : World) : Type 0 where
+  pub passes : Passes d w after
+  pub stands : MachineStands after.all (after.at d) d new
+  pub beside : (j : ℕ) (x : Machine) → j ≢ d → MachineStands w.all (w.at j) j x → MachineStands after.all (after.at j) j x
+  pub ours : AreOurs w.all → AreOurs after.all
+  pub counted : length after.all + m.book.consumed ≤ length w.all + new.book.consumed
+
+-- where All stays, the other members' machines stay
+pub beside_same : (w new : World) (d : ℕ) → new.all ≡ w.all → Passes d w new → (j : ℕ) (x : Machine) → j ≢ d → MachineStands w.all (w.at j) j x → MachineStands new.all (new.at j) j x
+beside_same w new d e p j x n s = subst (λ a. MachineStands a (new.at j) j x) (sym e) (subst (λ y. MachineStands w.all y j x) (p.others j n) s)
+
+-- so they do where what is recorded isn't covered by them
+pub machine_beside : (all more : List Update) (x : Member) (j : ℕ) (m : Machine) → ((u : Update) → In u more → x.known u.gvsn ≡ false) → MachineStands all x j m → MachineStands (all ++ more) x j m
+machine_beside all more x j m fresh s = record {
+  order = s.order;
+  own = s.own;
+  set = s.set;
+  kind = s.kind;
+  book = stays_standing all more x.known x.consumed x.phase m.book s.book fresh;
+  volume = s.volume;
+}
+
+-- ---- all members
+
+database_apart : (k j : ℕ) → j ≢ k → database_of (j + 1) ≢ database_of (k + 1)
+database_apart k j n e = n (omega (arith, e))
+
+-- a scene stays sound where a named member went on
+pub scene_on : (s : Scene) (k : ℕ) (new : World) → IsSoundScene s → k < length s.names → Passes (database_of (k + 1)) s.world new → IsSoundScene (in_world s new)
+scene_on s k new h within p = record {
+  world = p.sound;
+  unnamed = λ j nobody. let (kind, is) = h.unnamed j nobody in (kind, sym (p.others j (nobody k within)) ∙ is);
+}
+
+begun : (machines : List Machine) (s : Scene) (k : ℕ) (m : Machine) → MachinesStand machines s → slice_get machines k ≡ Some m → 9 ≤ m.book.consumed
+begun machines s k m h at =
+    let b = h.scene.world.invariant.versions.begun (database_of (k + 1)) in
+    let e = (h.each k m at).book.consumed in omega (arith, b, e)
+
+-- machines that stand for a scene go on to, each event at one of them
+pub machines_on : (machines : List Machine) (s : Scene) (k : ℕ) (m new : Machine) (after : World) → MachinesStand machines s → slice_get machines k ≡ Some m
+    → Goes s.world (database_of (k + 1)) m new after → MachinesStand (set machines k new) (in_world s after)
+machines_on machines s k m new after h at g = record {
+  many = length-set machines k new ∙ h.many;
+  each = λ j x found. get_set_cases (λ z. MachineStands after.all (after.at (database_of (j + 1))) (database_of (j + 1)) z) machines k j m new x at found (λ e. subst (λ i. MachineStands after.all (after.at (database_of (i + 1))) (database_of (i + 1)) new) (sym e) g.stands) (λ n e. g.beside (database_of (j + 1)) x (database_apart k j n) (h.each j x e));
+  ours = g.ours h.ours;
+  counted = let sums = sum_set consumed_in machines k m new at in
+      let more = g.counted in
+      let old = begun machines s k m h at in
+      let had = h.counted in
+      omega (arith, sums, more, old, had);
+  scene = scene_on s k after h.scene (let within = slice_get_within machines k m at in let many = h.many in omega (arith, within, many)) g.passes;
+}

@@ -1,0 +1,26 @@
+mod Texts
+mod Members
+mod Ordered
+mod Climbing
+mod Reached
+mod Sorting
+pub mod Vectors
+pub mod Volumes
+pub mod Passing
+pub mod Scenes
+pub mod Pairs
+pub mod Going
+pub mod Advancing
+pub mod Operating
+pub mod Widths
+pub mod Consumption
+pub mod Adopting
+pub mod Serving
+pub mod Finishing
+pub mod Orders
+pub mod Once
+pub mod OneText
+pub mod Lasting
+pub mod Listed
+pub mod Prints
+pub mod Runs

@@ -1,0 +1,63 @@
+-- What stands at the places of a list.
+use Rattle.std.proofs.Common.{◌≡◌, ◌≢◌, ◌<◌, ◌≤◌, ◌+◌, ◌-◌, ℕ, zero, suc, List, [], ◌∷◌, ◌++◌, length, get_or, set, refl, sym, ap, ◌∙◌, subst, Some, None, arith}
+use Rattle.std.specs.Prelude.{slice_get, sum_by}
+use Rattle.std.proofs.lemmas.List.Sums.{sum_by-cons}
+
+pub get_set_same : {X : Type 0} (xs : List X) (k : ℕ) (x y : X) → slice_get xs k ≡ Some x → slice_get (set xs k y) k ≡ Some y
+get_set_same [] k x y e = cc
+get_set_same (a ∷ xs) zero x y e = refl
+get_set_same (a ∷ xs) (suc k) x y e = get_set_same xs k x y e
+
+pub get_set_other : {X : Type 0} (xs : List X) (k j : ℕ) (y : X) → j ≢ k → slice_get (set xs k y) j ≡ slice_get xs j
+get_set_other [] k j y n = refl
+get_set_other (a ∷ xs) zero zero y n = absurd (n refl)
+get_set_other (a ∷ xs) zero (suc j) y n = refl
+get_set_other (a ∷ xs) (suc k) zero y n = refl
+get_set_other (a ∷ xs) (suc k) (suc j) y n = get_set_other xs k j y (λ q. n (omega (arith, q)))
+
+pub get_push : {X : Type 0} (xs : List X) (y : X) (k : ℕ) (x : X) → slice_get xs k ≡ Some x → slice_get (xs ++ y ∷ []) k ≡ Some x
+get_push [] y k x e = cc
+get_push (a ∷ xs) y zero x e = e
+get_push (a ∷ xs) y (suc k) x e = get_push xs y k x e
+
+-- an item after a push is an old one, or the new one
+pub get_push_cases : {X : Type 0} (P : X → Type 0) (xs : List X) (y : X) (k : ℕ) (x : X) → slice_get (xs ++ y ∷ []) k ≡ Some x → (slice_get xs k ≡ Some x → P x) → P y → P x
+get_push_cases P [] y zero x e old new = let same : y ≡ x = cc in subst P same new
+get_push_cases P [] y (suc k) x e old new = absurd (cc)
+get_push_cases P (a ∷ xs) y zero x e old new = old e
+get_push_cases P (a ∷ xs) y (suc k) x e old new = get_push_cases P xs y k x e old new
+
+-- the item that an index finds
+pub indexed : {X : Type 0} (xs : List X) (k : ℕ) (x y : X) → slice_get xs k ≡ Some x → y ≡ get_or xs k y → slice_get xs k ≡ Some y
+indexed [] k x y at is = absurd (cc)
+indexed (a ∷ xs) zero x y at is = ap Some (sym is)
+indexed (a ∷ xs) (suc k) x y at is = indexed xs k x y at is
+
+-- an item after one was set is the one that was set, or an old one at another place
+pub get_set_cases : {X : Type 0} (P : X → Type 0) (xs : List X) (k j : ℕ) (x y z : X) → slice_get xs k ≡ Some x → slice_get (set xs k y) j ≡ Some z → (j ≡ k → P y) → (j ≢ k → slice_get xs j ≡ Some z → P z) → P z
+get_set_cases P [] k j x y z at found new old = absurd (cc)
+get_set_cases P (a ∷ xs) zero zero x y z at found new old = let same : y ≡ z = cc in subst P same (new refl)
+get_set_cases P (a ∷ xs) zero (suc j) x y z at found new old = old (omega arith) found
+get_set_cases P (a ∷ xs) (suc k) zero x y z at found new old = old (omega arith) found
+get_set_cases P (a ∷ xs) (suc k) (suc j) x y z at found new old = get_set_cases P xs k j x y z at found (λ e. new (ap suc e)) (λ n e. old (λ q. n (omega (arith, q))) e)
+
+-- ---- sums
+
+-- the sum after one item was set
+pub sum_set : {X : Type 0} (f : X → ℕ) (xs : List X) (k : ℕ) (x y : X) → slice_get xs k ≡ Some x → sum_by f (set xs k y) + f x ≡ sum_by f xs + f y
+sum_set f [] k x y e = absurd (cc)
+sum_set f (a ∷ xs) zero x y e =
+    let same : f a ≡ f x = let is : a ≡ x = cc in ap f is in
+    omega (arith, same, sum_by-cons f y xs, sum_by-cons f a xs)
+sum_set f (a ∷ xs) (suc k) x y e = omega (arith, sum_set f xs k x y e, sum_by-cons f a (set xs k y), sum_by-cons f a xs)
+
+-- a sum of what is smaller at each place is smaller
+pub sum_less : {X : Type 0} (f g : X → ℕ) (xs : List X) → ((k : ℕ) (x : X) → slice_get xs k ≡ Some x → f x ≤ g x) → sum_by f xs ≤ sum_by g xs
+sum_less f g [] h = omega arith
+sum_less f g (x ∷ xs) h = omega (arith, h 0 x refl, sum_less f g xs (λ k y e. h (suc k) y e), sum_by-cons f x xs, sum_by-cons g x xs)
+
+-- what one item gives is within the sum
+pub in_sum : {X : Type 0} (f : X → ℕ) (xs : List X) (k : ℕ) (x : X) → slice_get xs k ≡ Some x → f x ≤ sum_by f xs
+in_sum f [] k x e = absurd (cc)
+in_sum f (a ∷ xs) zero x e = let same : f a ≡ f x = let is : a ≡ x = cc in ap f is in omega (arith, same, sum_by-cons f a xs)
+in_sum f (a ∷ xs) (suc k) x e = omega (arith, in_sum f xs k x e, sum_by-cons f a xs)

@@ -1,0 +1,88 @@
+-- What a member's machine sends, the member sends.
+use Rattle.std.proofs.Common.{◌≡◌, ◌≢◌, ◌<◌, ◌≤◌, ◌+◌, ◌⊎◌, ℕ, Bool, true, false, List, length, refl, sym, ap, ◌∙◌, subst, arith, inl, inr, Option, Some, None}
+use Rattle.frs_base.specs.declared.version.Uid.{Uid}
+use Rattle.win_order.specs.declared.update.Update.{Update}
+use Rattle.vol_state.specs.declared.record.VolRecord.{VolRecord}
+use Rattle.vol_state.specs.Journal.{pending_local}
+use Rattle.vol_state.specs.Pending.{IsLastPending as IsLastIn, IsPending as IsPendingIn}
+use Rattle.vol_state.proofs.Recent.{pending_is_last}
+use Rattle.record_db.specs.Records.{Covered, IsHeld}
+use Rattle.record_db.proofs.Lists.{found_held}
+use Rattle.name_rules.specs.Next.{IsPending}
+use Rattle.name_rules.specs.Recorded.{held_of}
+use Rattle.pinned_pages.specs.declared.answer.FileAnswer.TheVariants.{Found, NotYet}
+use Rattle.world_model.specs.World.{World, IsRecordOf}
+use Rattle.world_model.specs.Events.{IsOfFile, Step, SendUpdate, SendVector, sends_update, sends_vector}
+use Rattle.folder_core.specs.declared.reply.Reply.{Reply}
+use Rattle.folder_core.specs.declared.reply.Reply.TheVariants.{File}
+use Rattle.folder_core.specs.Machine.{Machine}
+use Rattle.folder_core.specs.Serve.{AnswersFile, answer_by}
+use Rattle.script_engine.specs.Scene.{Scene, in_world}
+use Rattle.script_engine.specs.Sound.{IsSoundWorld}
+use Rattle.script_engine.specs.Standing.{MachineStands, MachinesStand}
+use Rattle.script_engine.specs.Pulling.{IsLastPending}
+use Rattle.script_engine.proofs.Advancing.{scene_on}
+use Rattle.script_engine.proofs.Passing.{Passes, passes_update, passes_vector}
+
+-- ---- what is sent changes no machine
+
+pub sent_vector_stands : (machines : List Machine) (s : Scene) (k : ℕ) (server : ℕ) → MachinesStand machines s → k < length s.names → MachinesStand machines (in_world s (sends_vector s.world server))
+sent_vector_stands machines s k server h within = record {
+  many = h.many;
+  each = λ j m at. h.each j m at;
+  ours = h.ours;
+  counted = h.counted;
+  scene = scene_on s k (sends_vector s.world server) h.scene within (passes_vector s.world _ server (sends_vector s.world server) h.scene.world refl);
+}
+
+pub sent_update_stands : (machines : List Machine) (s : Scene) (k : ℕ) (server : ℕ) (u : Update) → MachinesStand machines s → k < length s.names → Step s.world server (SendUpdate u) (sends_update s.world server u)
+    → MachinesStand machines (in_world s (sends_update s.world server u))
+sent_update_stands machines s k server u h within step = record {
+  many = h.many;
+  each = λ j m at. h.each j m at;
+  ours = h.ours;
+  counted = h.counted;
+  scene = scene_on s k (sends_update s.world server u) h.scene within (passes_update s.world _ server u (sends_update s.world server u) h.scene.world step);
+}
+
+-- ---- a file
+
+-- a local record of the file isn't consumed, the last with this USN
+pub record Waits (w : World) (d : ℕ) (uid : Uid) (reply : Reply) : Type 0 where
+  pub usn : ℕ
+  pub last : IsLastPending w d uid usn
+  pub reply_is : reply ≡ File (NotYet usn)
+
+-- its record is sent
+pub record Sends (w : World) (d : ℕ) (uid : Uid) (at : ℕ) (reply : Reply) : Type 0 where
+  pub update : Update
+  pub file : update.uid ≡ uid
+  pub of_file : IsOfFile w d update
+  pub reply_is : reply ≡ File (Found at update)
+
+-- nothing of the file is pending, or the last that is has this USN
+pending_cases : (w : World) (d : ℕ) (m : Machine) (uid : Uid) → MachineStands w.all (w.at d) d m → IsLastIn (w.at d).volume uid (w.at d).consumed (pending_local m.volume.journal uid m.book.consumed)
+pending_cases w d m uid s =
+    subst (λ n. IsLastIn (w.at d).volume uid n (pending_local m.volume.journal uid m.book.consumed)) s.book.consumed
+    (pending_is_last m.volume (w.at d).volume uid m.book.consumed s.order.numbered s.volume)
+
+none_pending : (w : World) (d : ℕ) (uid : Uid) → IsLastIn (w.at d).volume uid (w.at d).consumed None → IsPending (w.at d).consumed (w.at d).volume uid → ⊥
+none_pending w d uid none (n, r, past, at, local, same) = none n (r, at, past, local, same)
+
+last_pending : (w : World) (d : ℕ) (uid : Uid) (usn : ℕ) → IsLastIn (w.at d).volume uid (w.at d).consumed (Some usn) → IsLastPending w d uid usn
+last_pending w d uid usn ((r, at, past, local, same), most) = record {
+  pending = (r, past, at, local, same);
+  last = λ n q low here is_local file. most n (q, here, low, is_local, file);
+}
+
+-- a member that covers an update of the file has a record of it
+pub files_at : (w : World) (d : ℕ) (u : Update) (at : ℕ) (m : Machine) (reply : Reply) (new : Machine) → MachineStands w.all (w.at d) d m → Covered w.all (w.at d).known u
+    → AnswersFile u.uid at m reply new → (Waits w d u.uid reply ⊎ Sends w d u.uid at reply) × (new ≡ m)
+files_at w d u at m reply new s covered (said, same) =
+    (by (held_of m.book.records u.uid) (found_held w.all (w.at d).known m.book.records u.uid s.book.records) (pending_local m.volume.journal u.uid m.book.consumed) (pending_cases w d m u.uid s) said, same)
+  where
+    by : (held : Option Update) → IsHeld (Covered w.all (w.at d).known) u.uid held → (waiting : Option ℕ) → IsLastIn (w.at d).volume u.uid (w.at d).consumed waiting → reply ≡ File (answer_by at held waiting)
+        → Waits w d u.uid reply ⊎ Sends w d u.uid at reply
+    by None none waiting last e = absurd (none u covered refl)
+    by (Some v) is (Some usn) last e = inl (record { usn = usn; last = last_pending w d u.uid usn last; reply_is = e })
+    by (Some v) is None last e = inr (record { update = v; file = is.1; of_file = (is.0, λ p. none_pending w d u.uid last (subst (IsPending (w.at d).consumed (w.at d).volume) is.1 p)); reply_is = e })

@@ -1,0 +1,27 @@
+-- What a book says of the width of its vector.
+use Rattle.std.proofs.Common.{◌≡◌, ◌<◌, ◌≤◌, ◌||◌, ℕ, Bool, true, false, List, length, refl, sym, ap, ◌∙◌, subst}
+use Rattle.frs_base.specs.Versions.{same_gvsn}
+use Rattle.frs_base.specs.declared.version.Gvsn.{Gvsn}
+use Rattle.version_vector.specs.Limits.{IsTooLong}
+use Rattle.version_vector.specs.Versions.{covers}
+use Rattle.version_vector.specs.declared.errors.VectorError.TheVariants as vector
+use Rattle.version_vector.specs.declared.interval.Interval.{Interval}
+use Rattle.record_db.specs.Records.{Versions, both, plus}
+use Rattle.record_db.specs.State.{IsVector}
+use Rattle.record_db.proofs.Sets.{one_set}
+use Rattle.script_engine.specs.Widening.{Exceeds, Fits, IsVectorOf}
+use Rattle.script_engine.proofs.Vectors.{HasVector}
+
+-- a set that a vector covers
+pub covered_is : (known : Versions) (vector : List Interval) → IsVector known vector → covers vector ≡ known
+covered_is known vector is = one_set (covers vector) known is.covering
+
+-- a vector that is short enough
+pub fits_by : (set other : Versions) (vector : List Interval) → set ≡ other → IsVector set vector → length vector ≤ 65536 → Fits other
+fits_by set other vector e is within = subst Fits e (vector, record { canonical = is.canonical; covering = is.covering }, within)
+
+-- a set whose vector is too long
+pub exceeds_by : (set other : Versions) (count : ℕ) → set ≡ other → HasVector other → IsTooLong (vector.VectorFull count) set → Exceeds other count
+exceeds_by set other count e (list, is) (above, long) =
+    let wide : IsTooLong (vector.VectorFull count) other = subst (λ s. IsTooLong (vector.VectorFull count) s) e (above, long) in
+    (list, is, wide.1 list is.canonical is.covering, above)

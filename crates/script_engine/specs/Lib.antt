@@ -1,0 +1,14 @@
+pub mod Named
+pub mod Printed
+pub mod Scene
+pub mod Refusals
+pub mod Widening
+pub mod Consuming
+pub mod Pulling
+pub mod Trees
+pub mod Rows
+pub mod Laws
+pub mod Text
+pub mod Sound
+pub mod Standing
+pub mod Scripts

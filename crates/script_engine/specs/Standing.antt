@@ -1,0 +1,46 @@
+-- Which scene an engine stands for.
+use Rattle.std.specs.Prelude.{◌≡◌, ◌<◌, ◌≤◌, ◌+◌, ◌-◌, ◌^◌, ℕ, List, Some, length, map, slice_get, sum_by}
+use Rattle.frs_base.specs.Identifiers.{content_set, database_of}
+use Rattle.frs_base.specs.Options.{In}
+use Rattle.win_order.specs.declared.update.Update.{Update}
+use Rattle.vol_state.specs.Maps.{Stands as StandsForMaps}
+use Rattle.record_db.specs.Standing.{StandsFor}
+use Rattle.world_model.specs.World.{Member}
+use Rattle.folder_core.specs.Machine.{Machine}
+use Rattle.folder_core.specs.Sound.{IsInOrder}
+use Rattle.script_engine.specs.Scene.{Scene}
+use Rattle.script_engine.specs.Sound.{IsSoundScene}
+
+-- a machine stands for the member of this database: its records are Winners(Covered(All, K)), its vector covers K, its lists are those of the volume
+pub record MachineStands (all : List Update) (x : Member) (d : ℕ) (m : Machine) : Type 0 where
+  pub order : IsInOrder m
+  pub own : m.book.own ≡ d
+  pub set : m.book.set ≡ content_set
+  pub kind : m.book.kind ≡ x.kind
+  pub book : StandsFor all x.known x.consumed x.phase m.book
+  pub volume : StandsForMaps m.volume x.volume
+
+-- updates of the content set, none of them compressed
+abbrev pub AreOurs : List Update → Type 0
+AreOurs all = (u : Update) → In u all → (u.set ≡ content_set) × (u.flags ≡ 0)
+
+-- how many journal records a member consumed, and how many it made
+abbrev pub consumed_in : Machine → ℕ
+consumed_in m = m.book.consumed - 9
+
+abbrev pub made_in : Machine → ℕ
+made_in m = m.volume.next_usn - 9
+
+-- the machines stand for the scene's members, in order
+pub record MachinesStand (machines : List Machine) (s : Scene) : Type 0 where
+  pub many : length machines ≡ length s.names
+  pub each : (k : ℕ) (m : Machine) → slice_get machines k ≡ Some m → MachineStands s.world.all (s.world.at (database_of (k + 1))) (database_of (k + 1)) m
+  pub ours : AreOurs s.world.all
+  pub counted : length s.world.all ≤ sum_by consumed_in machines
+  pub scene : IsSoundScene s
+
+-- ---- bounds
+
+-- one journal record more is counted without overflow
+abbrev pub HaveRoom : List Machine → Type 0
+HaveRoom machines = sum_by made_in machines < 2 ^ 60

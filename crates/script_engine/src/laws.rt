@@ -1,0 +1,77 @@
+// Laws of the definitions.
+ghost use Rattle.script_engine.specs.Laws.{TreesAreOne, VolumesHaveTrees};
+ghost use Rattle.script_engine.specs.Scripts.{BeginningsGoOn, EqualRecords, EveryLinePrints, EveryScriptPrints, FreshScenesAreSound, LinesKeepScenesSound, LinesPrintOneText, OneText, RecordedIsCovered, RunsKeepScenesSound, RunsPrintOneText, StaysCovered};
+
+/// What is reached from the root of a volume, in order of the paths, is one list.
+pub fn trees_are_one()
+    ensures { TreesAreOne }
+{}
+
+/// Each volume has such a list.
+pub fn volumes_have_trees()
+    ensures { VolumesHaveTrees }
+{}
+
+/// Before the first line a scene is sound: it keeps the world's invariant, each volume is one of
+/// lists and each vector one of intervals, and a database without a name is that of a member that
+/// has done nothing.
+pub fn fresh_scenes_are_sound()
+    ensures { FreshScenesAreSound }
+{}
+
+/// Each line in form keeps a scene sound.
+pub fn lines_keep_scenes_sound()
+    ensures { LinesKeepScenesSound }
+{}
+
+/// So do the lines of a run, and so every scene that a run reaches is sound.
+pub fn runs_keep_scenes_sound()
+    ensures { RunsKeepScenesSound }
+{}
+
+/// A line prints one text and leads to one scene.
+pub fn lines_print_one_text()
+    ensures { LinesPrintOneText }
+{}
+
+/// So do the lines of a run.
+pub fn runs_print_one_text()
+    ensures { RunsPrintOneText }
+{}
+
+/// A script has one text, so that the text of the bytes read says wholly what was to be written.
+pub fn one_text()
+    ensures { OneText }
+{}
+
+/// In every scene that a run reaches, each line prints something and leads on.
+pub fn every_line_prints()
+    ensures { EveryLinePrints }
+{}
+
+/// So every script in form has a text.
+pub fn every_script_prints()
+    ensures { EveryScriptPrints }
+{}
+
+/// What some first lines of a script print is a beginning of its whole text.
+pub fn beginnings_go_on()
+    ensures { BeginningsGoOn }
+{}
+
+/// In every scene that a run reaches, each recorded update is covered by the member whose database
+/// its version has.
+pub fn recorded_is_covered()
+    ensures { RecordedIsCovered }
+{}
+
+/// What a member covers it covers after every further line, at the same place and with the same
+/// name.
+pub fn stays_covered()
+    ensures { StaysCovered }
+{}
+
+/// Members that cover the same versions have the same records, at one moment of a run or at two.
+pub fn equal_vectors_have_equal_records()
+    ensures { EqualRecords }
+{}

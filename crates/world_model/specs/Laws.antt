@@ -1,0 +1,207 @@
+-- What holds of every run.
+use Rattle.std.specs.Prelude.{◌≡◌, ◌↔◌, ◌<◌, ◌≤◌, ◌-◌, ℕ, true, false, All, List, [], Option, Some, length, sum_by, Bool, ◌∷◌, count_by}
+use Rattle.frs_base.specs.Options.{In}
+use Rattle.frs_base.specs.Versions.{same_uid}
+use Rattle.frs_base.specs.declared.kind.Kind.{Kind}
+use Rattle.frs_base.specs.declared.kind.Kind.TheVariants.{File}
+use Rattle.frs_base.specs.declared.kind.MemberKind.{MemberKind}
+use Rattle.frs_base.specs.declared.sum.Sum.{Sum}
+use Rattle.frs_base.specs.declared.version.Gvsn.{Gvsn}
+use Rattle.frs_base.specs.declared.version.Uid.{Uid}
+use Rattle.win_order.specs.declared.update.Update.{Update}
+use Rattle.vol_state.specs.declared.object.Object.{Object}
+use Rattle.vol_state.specs.declared.command.VolCmd.{VolCmd}
+use Rattle.vol_state.specs.State.{uid_of}
+use Rattle.vol_state.specs.Tables.{IsAt}
+use Rattle.record_db.specs.Records.{Versions, Covered, IsHeldOrBeaten}
+use Rattle.name_rules.specs.Tree.{IsRow, IsVolumeRow, kind_of}
+use Rattle.name_rules.specs.Next.{IsCandidate, IsDrained, IsPending, IsQuiet, IsStepOf, IsTurn, Step as InstallStep, content_sum}
+use Rattle.world_model.specs.World.{Member, World, SentVector, IsRecordOf, fresh_member, fresh_world}
+use Rattle.world_model.specs.Events.{Event, Step, Adopt, Install, Unstage, IsAllHeld, Consume}
+use Rattle.world_model.specs.Runs.{CoversAlike, Grows, Happening, Run}
+use Rattle.world_model.specs.Invariant.{Invariant, SentIsKnown, VersionsAreMade}
+use Rattle.world_model.specs.Folder.{FolderIsSound, FoldersStaySound}
+use Rattle.world_model.specs.Rounds.{GoesOn, MayFinish, Polls, Round, RoundIsTrue}
+use Rattle.world_model.specs.Due.{Lowers, Sees, View, due}
+use Rattle.world_model.specs.Lives.{Deed, FlightsAreKept, Happens, IsInFlight, Life, LifeRun}
+
+-- ---- the invariant
+
+-- members that have done nothing keep it
+abbrev pub FreshWorldsAreSound : Type 0
+FreshWorldsAreSound = (kinds : ℕ → MemberKind) → Invariant (fresh_world kinds)
+
+-- every event keeps it
+abbrev pub EventsKeepTheInvariant : Type 0
+EventsKeepTheInvariant = (w : World) (d : ℕ) (e : Event) (new : World) → Invariant w → Step w d e new → Invariant new
+
+-- so does every run, in which All, what is consumed, covered and sent only grow
+abbrev pub RunsKeepTheInvariant : Type 0
+RunsKeepTheInvariant = (w : World) (hs : List Happening) (new : World) → Invariant w → Run w hs new → Invariant new × Grows w new
+
+-- All has at most an update for each version that one of the members has consumed
+abbrev pub AllIsCounted : Type 0
+AllIsCounted = (kinds : ℕ → MemberKind) (members : List ℕ) (hs : List Happening) (new : World) → All (λ h. In h.at members) hs
+    → Run (fresh_world kinds) hs new → length new.all ≤ sum_by (λ d. (new.at d).consumed - 9) members
+
+-- ---- records; of a world and a later one, as runs with stops and without give them
+
+-- the same versions
+abbrev pub Same : Versions → Versions → Type 0
+Same a b = (g : Gvsn) → a g ≡ b g
+
+-- what a vector covers of All doesn't change while All grows
+abbrev pub CoverIsStable : Type 0
+CoverIsStable = (w new : World) → VersionsAreMade w → Grows w new
+    → ((d : ℕ) → CoversAlike w new (w.at d).known) × ((s : SentVector) → In s w.vectors → CoversAlike w new s.versions)
+
+-- each covered update is held, or beaten by a record; a file has one record at most
+abbrev pub CoveredIsHeld : Type 0
+CoveredIsHeld = (w : World) → VersionsAreMade w → (d : ℕ)
+    → ((u : Update) → Covered w.all (w.at d).known u → IsHeldOrBeaten (IsRecordOf w d) u)
+    × ((u v : Update) → IsRecordOf w d u → IsRecordOf w d v → u.uid ≡ v.uid → u ≡ v)
+
+-- a sent vector and a recorded change stay covered, and are held or beaten from then on
+abbrev pub StaysCovered : Type 0
+StaysCovered = (w new : World) → VersionsAreMade w → VersionsAreMade new → SentIsKnown w → Grows w new
+    → ((s : SentVector) (g : Gvsn) → In s w.vectors → s.versions g ≡ true → (new.at s.from).known g ≡ true)
+    × ((u : Update) → In u w.all → IsHeldOrBeaten (IsRecordOf new u.gvsn.db) u)
+
+-- members that cover the same versions, at one moment or at two, have the same records
+abbrev pub EqualVectorsHaveEqualRecords : Type 0
+EqualVectorsHaveEqualRecords = (w new : World) → VersionsAreMade w → Grows w new → (i j : ℕ)
+    → Same (w.at i).known (new.at j).known → (u : Update) → IsRecordOf w i u ↔ IsRecordOf new j u
+
+-- ---- trees
+
+-- a member is drained
+abbrev pub IsDrainedAt : World → ℕ → Type 0
+IsDrainedAt w d = IsDrained (IsRecordOf w d) d (w.at d).volume (w.at d).staged (w.at d).consumed
+
+-- the tree of a drained member's volume is the tree of its records
+abbrev pub DrainedVolumesAreTrees : Type 0
+DrainedVolumesAreTrees = (w : World) → Invariant w → (d : ℕ) → IsDrainedAt w d
+    → (path : List (List ℕ)) (kind : Kind) (sum : Sum) → IsVolumeRow (w.at d).volume path kind sum ↔ IsRow (IsRecordOf w d) path kind sum
+
+-- drained members that cover the same versions, at one moment or at two, have the same trees
+abbrev pub EqualVectorsHaveEqualTrees : Type 0
+EqualVectorsHaveEqualTrees = (w new : World) → Invariant w → Invariant new → Grows w new → (i j : ℕ) → Same (w.at i).known (new.at j).known
+    → IsDrainedAt w i → IsDrainedAt new j
+    → (path : List (List ℕ)) (kind : Kind) (sum : Sum) → IsVolumeRow (w.at i).volume path kind sum ↔ IsVolumeRow (new.at j).volume path kind sum
+
+-- ---- the installer
+
+-- each staged sum is that of some contents
+abbrev pub HaveContents : (Uid → Option Sum) → Type 0
+HaveContents staged = (uid : Uid) (sum : Sum) → staged uid ≡ Some sum → (bytes : List ℕ) × (content_sum File bytes ≡ sum)
+
+-- the operation of a step is done
+abbrev pub IsOperated : World → ℕ → InstallStep → World → Type 0
+IsOperated w d step new = (op : VolCmd) × IsStepOf (IsRecordOf w d) d (w.at d).volume step op × Step w d (Install op) new
+
+-- a step is done; the last two kinds leave the volume alone, and the last passes over a record of the installer's own
+abbrev pub IsDone : World → ℕ → InstallStep → World → Type 0
+IsDone w d (InstallStep.Park file) new = IsOperated w d (InstallStep.Park file) new
+IsDone w d (InstallStep.Erase file) new = IsOperated w d (InstallStep.Erase file) new
+IsDone w d (InstallStep.Make file) new = IsOperated w d (InstallStep.Make file) new
+IsDone w d (InstallStep.Rewrite file) new = IsOperated w d (InstallStep.Rewrite file) new
+IsDone w d (InstallStep.Place file) new = IsOperated w d (InstallStep.Place file) new
+IsDone w d (InstallStep.Unstage file) new = Step w d (Unstage file) new
+IsDone w d (InstallStep.Skip usn) new = (moment : ℕ) × (usn ≡ (w.at d).consumed) × IsQuiet (w.at d).consumed (w.at d).volume × Step w d (Consume moment) new
+
+-- each next step can be done
+abbrev pub NextStepsCanBeDone : Type 0
+NextStepsCanBeDone = (w : World) → Invariant w → (d : ℕ) → HaveContents (w.at d).staged → IsQuiet (w.at d).consumed (w.at d).volume → (step : InstallStep)
+    → IsTurn (IsRecordOf w d) d (w.at d).volume (w.at d).staged step → IsCandidate (IsRecordOf w d) d (w.at d).volume (w.at d).staged (w.at d).consumed step
+    → (new : World) × IsDone w d step new
+
+-- no operation of the installer changes an object with a pending local record
+abbrev pub PendingObjectsStay : Type 0
+PendingObjectsStay = (w : World) (d : ℕ) (op : VolCmd) (new : World) → Step w d (Install op) new
+    → (fid : ℕ) (o : Object) → IsAt (w.at d).volume fid o → IsPending (w.at d).consumed (w.at d).volume (uid_of d o) → IsAt (new.at d).volume fid o
+
+-- ---- rounds
+
+-- a round begins true, each of its acts keeps it true, and so does what happens at other members or here meanwhile
+pub record RoundsAreTrue (w : World) (puller server : ℕ) : Type 0 where
+  pub begins : (new : World) (r : Round) → Polls w puller server new r → RoundIsTrue new puller server r
+  pub goes_on : (r : Round) (new : World) (after : Round) → RoundIsTrue w puller server r → GoesOn w puller server r new after → RoundIsTrue new puller server after
+  pub stays : (r : Round) (d : ℕ) (e : Event) (new : World) → RoundIsTrue w puller server r → Step w d e new → RoundIsTrue new puller server r
+
+-- so it is in every world that keeps the invariant
+abbrev pub RoundsStayTrue : Type 0
+RoundsStayTrue = (w : World) → Invariant w → (puller server : ℕ) → RoundsAreTrue w puller server
+
+-- a round in which nothing is asked for or listed holds or beats all of its vector, so it may be finished
+abbrev pub FinishedRoundsAreHeld : Type 0
+FinishedRoundsAreHeld = (w : World) (puller server : ℕ) (r : Round) → RoundIsTrue w puller server r → MayFinish w r → IsAllHeld w puller r.versions
+
+-- ---- adoptions
+
+-- an update that is adopted isn't covered, isn't ahead of its own member, and is of its file's kind
+pub record IsFitToAdopt (w : World) (d : ℕ) (u : Update) : Type 0 where
+  pub new : (w.at d).known u.gvsn ≡ false
+  pub version_ahead : u.gvsn.db ≡ d → u.gvsn.version < (w.at d).consumed
+  pub file_ahead : u.uid.db ≡ d → u.uid.version < (w.at d).consumed
+  pub kinds : (v : Update) → IsRecordOf w d v → v.uid ≡ u.uid → kind_of v ≡ kind_of u
+  pub object_kind : (fid : ℕ) (o : Object) → IsAt (w.at d).volume fid o → uid_of d o ≡ u.uid → o.kind ≡ kind_of u
+
+-- so is each in a run
+abbrev pub AdoptionsAreFit : Type 0
+AdoptionsAreFit = (w : World) (d : ℕ) (u : Update) (new : World) → Invariant w → Step w d (Adopt u) new → IsFitToAdopt w d u
+
+-- a member alone that has done nothing is sound
+abbrev pub FoldersBeginSound : Type 0
+FoldersBeginSound = (own : ℕ) (kind : MemberKind) → FolderIsSound own (fresh_member kind) []
+
+-- a member alone stays sound, whatever its partners send
+abbrev pub AllFoldersStaySound : Type 0
+AllFoldersStaySound = (own : ℕ) (x : Member) (records : List Update) → FolderIsSound own x records → FoldersStaySound own x records
+
+-- ---- stops and restarts
+
+-- every life keeps the invariant, All and what is covered only grow, and each event in flight can land as it would have then
+abbrev pub LivesAreSound : Type 0
+LivesAreSound = (l : Life) (ds : List Deed) (new : Life) → Invariant l.world → FlightsAreKept l → LifeRun l ds new
+    → Invariant new.world × Grows l.world new.world × FlightsAreKept new
+
+-- an event in flight has the change of its member that it would have had
+abbrev pub FlightsCanLand : Type 0
+FlightsCanLand = (l : Life) (d : ℕ) (e : Event) (after : Member) → IsInFlight l d e after → (landed : Life) × Happens l d e Option.None landed × (landed.world.at d ≡ after)
+
+-- ---- how much is due
+
+-- what a file's view sees at a member
+abbrev pub SeesAt : World → ℕ → Uid → View → Type 0
+SeesAt w d uid v = Sees (IsRecordOf w d) d (w.at d).volume (w.at d).staged uid v
+
+-- each file of every world that keeps the invariant has a view
+abbrev pub ViewsAreThere : Type 0
+ViewsAreThere = (w : World) → Invariant w → (d : ℕ) (uid : Uid) → (v : View) × SeesAt w d uid v
+
+-- at most four things are due for a file
+abbrev pub AtMostFourAreDue : Type 0
+AtMostFourAreDue = (w : World) → Invariant w → (d : ℕ) (uid : Uid) (v : View) → SeesAt w d uid v → due v ≤ 4
+
+-- the step is for this file; the last kind is for none
+abbrev pub is_for : InstallStep → Uid → Bool
+is_for (InstallStep.Park file) uid = same_uid file uid
+is_for (InstallStep.Erase file) uid = same_uid file uid
+is_for (InstallStep.Make file) uid = same_uid file uid
+is_for (InstallStep.Rewrite file) uid = same_uid file uid
+is_for (InstallStep.Place file) uid = same_uid file uid
+is_for (InstallStep.Unstage file) uid = same_uid file uid
+is_for (InstallStep.Skip usn) uid = false
+
+-- each step that is done lowers what is due for its file, and raises it for none
+abbrev pub StepsLowerWhatIsDue : Type 0
+StepsLowerWhatIsDue = (w : World) → Invariant w → (d : ℕ) (step : InstallStep) (new : World) → IsDone w d step new → Lowers (SeesAt w d) (SeesAt new d) (is_for step)
+
+-- steps are done at a member, one after the other
+abbrev pub AreDone : World → ℕ → List InstallStep → World → Type 0
+AreDone w d [] new = new ≡ w
+AreDone w d (step ∷ steps) new = (mid : World) × IsDone w d step mid × AreDone mid d steps new
+
+-- so at most four are done for a file, where nothing else happens between them
+abbrev pub AtMostFourAreDone : Type 0
+AtMostFourAreDone = (w : World) → Invariant w → (d : ℕ) (steps : List InstallStep) (new : World) → AreDone w d steps new → (uid : Uid) → count_by (λ step. is_for step uid) steps ≤ 4

@@ -1,0 +1,10 @@
+pub mod World
+pub mod Events
+pub mod Runs
+pub mod Invariant
+pub mod Folder
+pub mod Rounds
+pub mod Lives
+pub mod Due
+pub mod Laws
+pub mod Examples

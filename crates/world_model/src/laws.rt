@@ -1,0 +1,123 @@
+// What holds of every run.
+ghost use Rattle.world_model.specs.Laws.{AdoptionsAreFit, AllFoldersStaySound, AllIsCounted, AtMostFourAreDone, AtMostFourAreDue, CoverIsStable, CoveredIsHeld, DrainedVolumesAreTrees, EqualVectorsHaveEqualRecords, EqualVectorsHaveEqualTrees, EventsKeepTheInvariant, FinishedRoundsAreHeld, FlightsCanLand, FoldersBeginSound, FreshWorldsAreSound, LivesAreSound, NextStepsCanBeDone, PendingObjectsStay, RoundsStayTrue, RunsKeepTheInvariant, StaysCovered, StepsLowerWhatIsDue, ViewsAreThere};
+
+/// Members that have done nothing keep the invariant.
+pub fn fresh_worlds_are_sound()
+    ensures { FreshWorldsAreSound }
+{}
+
+/// From a fresh world on, All has at most an update for each version that a member has consumed: of
+/// each member its `consumed`, less 9.
+pub fn all_is_counted()
+    ensures { AllIsCounted }
+{}
+
+/// What a vector covers of All doesn't change while All grows.
+pub fn cover_is_stable()
+    ensures { CoverIsStable }
+{}
+
+/// Each covered update is a record, or a record of its file isn't lower; a file has one record at
+/// most.
+pub fn what_is_covered_is_held()
+    ensures { CoveredIsHeld }
+{}
+
+/// A sent vector and a recorded change stay covered, and are held or beaten from then on.
+pub fn what_is_sent_stays_covered()
+    ensures { StaysCovered }
+{}
+
+/// Members that cover the same versions have the same records, at one moment or at two.
+pub fn equal_vectors_have_equal_records()
+    ensures { EqualVectorsHaveEqualRecords }
+{}
+
+/// The tree of a drained member's volume is the tree of its records: what its paths lead to, with
+/// kinds and sums.
+pub fn drained_volumes_are_trees()
+    ensures { DrainedVolumesAreTrees }
+{}
+
+/// Drained members that cover the same versions have the same trees, at one moment or at two.
+pub fn equal_vectors_have_equal_trees()
+    ensures { EqualVectorsHaveEqualTrees }
+{}
+
+/// A round stays true, whatever happens in it or beside it.
+pub fn rounds_stay_true()
+    ensures { RoundsStayTrue }
+{}
+
+/// A round in which nothing is asked for or listed may be finished.
+pub fn finished_rounds_are_held()
+    ensures { FinishedRoundsAreHeld }
+{}
+
+/// An update that is adopted in a run is new, not ahead of its own member, and of its file's kind.
+pub fn adoptions_are_fit()
+    ensures { AdoptionsAreFit }
+{}
+
+/// An event in flight when its member stopped can have its change when the member starts again.
+pub fn flights_can_land()
+    ensures { FlightsCanLand }
+{}
+
+/// Every event keeps the invariant.
+pub fn events_keep_the_invariant()
+    ensures { EventsKeepTheInvariant }
+{}
+
+/// Every run keeps the invariant, and All, what is consumed, what is covered and what was sent only
+/// grow in it.
+pub fn runs_keep_the_invariant()
+    ensures { RunsKeepTheInvariant }
+{}
+
+/// A member alone that has done nothing is sound.
+pub fn folders_begin_sound()
+    ensures { FoldersBeginSound }
+{}
+
+/// A member alone stays sound under its own operations, its installer, its journal and every
+/// adoption that is fit, whatever its partners send.
+pub fn folders_stay_sound()
+    ensures { AllFoldersStaySound }
+{}
+
+/// No operation of the installer changes an object with a pending local record.
+pub fn pending_objects_stay()
+    ensures { PendingObjectsStay }
+{}
+
+/// Events, stops and restarts keep the invariant, and each event in flight can still land.
+pub fn lives_are_sound()
+    ensures { LivesAreSound }
+{}
+
+/// Each next step of the installer can be done, where no local record is pending and what is staged
+/// has contents.
+pub fn next_steps_can_be_done()
+    ensures { NextStepsCanBeDone }
+{}
+
+/// At most four things are due for a file.
+pub fn at_most_four_are_due()
+    ensures { AtMostFourAreDue }
+{}
+
+/// Each step of the installer that is done lowers what is due for its file, and raises it for none.
+pub fn steps_lower_what_is_due()
+    ensures { StepsLowerWhatIsDue }
+{}
+
+/// Each file has a view: it can be told what is due for it.
+pub fn views_are_there()
+    ensures { ViewsAreThere }
+{}
+
+/// At most four steps of the installer are done for a file, where nothing else happens between them.
+pub fn at_most_four_are_done()
+    ensures { AtMostFourAreDone }
+{}
