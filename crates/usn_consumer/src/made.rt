@@ -67,10 +67,10 @@ fn created_of(moment: u64, held: Option<&Update>) -> u64
 }
 
 /// The kind of operation takes an object out.
-fn is_deletion(record: &VolRecord) -> bool
-    ensures { result ≡ is_deletion record.now }
+fn is_deletion(entry: &VolRecord) -> bool
+    ensures { result ≡ is_deletion entry.now }
 {
-    record.op == 5 || record.op == 7
+    entry.op == 5 || entry.op == 7
 }
 
 /// The root's UID.
@@ -221,17 +221,17 @@ pub(crate) fn recorded_of(
     alloc: Global,
     volume: &Volume,
     mark: &Mark,
-    record: &VolRecord,
+    entry: &VolRecord,
     held: Option<&Update>,
 ) -> Result<Option<Update>, AllocError>
     requires { IfSome (option_copied held) (λ u. u.clock < 2 ^ 62) }
-    ensures { IfOk result (λ made. made ≡ recorded_of volume.now.state.own (maps_of volume.now.state) mark.now.base mark.now.usn mark.now.moment record.now (option_copied held.entry)) }
+    ensures { IfOk result (λ made. made ≡ recorded_of volume.now.state.own (maps_of volume.now.state) mark.now.base mark.now.usn mark.now.moment entry.now (option_copied held.entry)) }
 {
-    if !record.local {
+    if !entry.local {
         return Ok(None);
     }
-    if is_deletion(record) {
+    if is_deletion(entry) {
         return recorded_deletion(alloc, volume.own(), mark, held);
     }
-    recorded_change(alloc, volume, mark, held, volume.object_at(record.fid))
+    recorded_change(alloc, volume, mark, held, volume.object_at(entry.fid))
 }
