@@ -1,5 +1,8 @@
 -- A whole pull of its parts.
 use Rattle.std.proofs.Common.{◌≡◌, ◌+◌, ◌⊎◌, ℕ, Bool, true, false, List, [], ◌∷◌, refl, sym, ap, ◌∙◌, subst, inl, inr, Option, Some, None, Result, Ok, Err}
+use Rattle.std.specs.Prelude.{slice_get}
+use Rattle.std.specs.List.Sorted.{IsPermutation, IsSortedBy}
+use Rattle.frs_base.specs.Identifiers.{database_of}
 use Rattle.frs_base.specs.Options.{In}
 use Rattle.version_vector.specs.declared.interval.Interval.{Interval}
 use Rattle.win_order.specs.declared.update.Update.{Update}
@@ -12,13 +15,20 @@ use Rattle.world_model.specs.Runs.{Grows}
 use Rattle.world_model.proofs.Growth.{grows_trans, stays}
 use Rattle.world_model.proofs.Puts.{record_stayed}
 use Rattle.world_model.proofs.Rounds.{held_stays}
+use Rattle.pinned_pages.specs.declared.pinned.Pinned.{Pinned}
+use Rattle.folder_core.specs.Replay.{Seen}
+use Rattle.script_engine.specs.declared.engine.Engine.{Engine}
 use Rattle.script_engine.specs.declared.engine.pulling.Paged.{Paged}
 use Rattle.script_engine.specs.declared.refusal.Refusal.{Refusal}
 use Rattle.script_engine.specs.declared.refusal.Refusal.TheVariants.{NotYet, VectorFull}
+use Rattle.script_engine.specs.Engines.{Stands}
 use Rattle.script_engine.specs.Named.{HasName}
+use Rattle.script_engine.specs.Scene.{Scene, in_world}
 use Rattle.script_engine.specs.Pulling.{Ends, IsAsked, Pulls, TakesFiles, TakesPages}
-use Rattle.script_engine.specs.Pulls.{AreCovered, ArePages, AreTreated, Ended, FilesTaken, MayFinish, PagesTaken, PullEnds}
+use Rattle.script_engine.specs.Pulls.{AreCovered, ArePages, AreTreated, Ended, FilesTaken, IsPinned, MayFinish, PagesTaken, PullEnds, uncovered, version_lt}
 use Rattle.script_engine.specs.Widening.{IsVectorOf}
+use Rattle.script_engine.proofs.Asking.{asked_page}
+use Rattle.script_engine.proofs.Spoken.{machine_held}
 
 -- what is asked for are pages of the vector that was sent
 pub pages_are : (w : World) (p e : ℕ) (page : List Update) → IsAsked w p e page → ArePages (sends_vector w e) e page
@@ -105,3 +115,13 @@ pub pull_nameless : (w : World) (p e taken : ℕ) (why : Refusal) (new : World) 
 pull_nameless w p e taken why new (sent, page, listed, at_once, fetched, Some first, mid, step, asked, pages, (is, same), count) = pages_nameless sent p e page listed at_once (Some first) mid pages why (sym is)
 pull_nameless w p e taken why new (sent, page, listed, at_once, fetched, None, mid, step, asked, pages, (Some second, last, files, (is, same)), count) = files_nameless mid p e listed fetched (Some second) last files why (sym is)
 pull_nameless w p e taken why new (sent, page, listed, at_once, fetched, None, mid, step, asked, pages, (None, last, files, ends), count) = ends_nameless last p (w.at e).known (Some why) new ends why refl
+
+-- ---- of an engine
+
+-- the page that an engine asks for
+pub pull_asked : (old mid : Engine) (s : Scene) (at server : ℕ) (pinned : Pinned) (f : Seen) (vector : List Interval) (records page : List Update) → Stands old s → Stands mid (in_world s (sends_vector s.world server)) → IsPinned s.world server pinned
+    → slice_get mid.folders.items at ≡ Some f → vector ≡ f.machine.book.vector → records ≡ pinned.records → IsPermutation (uncovered vector records) page × IsSortedBy version_lt page → IsAsked s.world (database_of (at + 1)) server page
+pull_asked old mid s at server pinned f vector records page stands on is found same theirs (moved, sorted) =
+    let m = machine_held mid (in_world s (sends_vector s.world server)) at f on found in
+    asked_page s.world (database_of (at + 1)) server f.machine.book.vector pinned.records page stands.machines.scene.world.invariant.versions
+    (record { canonical = m.book.vector.canonical; covering = m.book.vector.covering }) is.records (subst (λ l. IsPermutation l page) (λ i. uncovered (same i) (theirs i)) moved) sorted

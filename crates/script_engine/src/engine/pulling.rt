@@ -1,5 +1,5 @@
 // Lines that bring a member what another one has.
-ghost use Rattle.std.specs.Prelude.{◌≡◌, ◌≢◌, ◌<◌, ◌≤◌, ◌^◌, IfOk, OnOk, length};
+ghost use Rattle.std.specs.Prelude.{◌≡◌, ◌≢◌, ◌<◌, ◌≤◌, ◌^◌, true, IfOk, OnOk, length, string_bytes};
 ghost use Rattle.std.specs.List.Sorted.{IsPermutation, IsSortedBy};
 ghost use Rattle.std.specs.Ordering.{is_lt};
 ghost use Rattle.frs_base.specs.Identifiers.{database_of};
@@ -12,6 +12,7 @@ ghost use Rattle.script_engine.specs.Scene.{Scene, in_world};
 
 use super::Engine;
 use crate::Refusal;
+use crate::lines::{pulled_text, refusal_text, unknown_text};
 use crate::replies::{file_of, pinned_of, taken_of};
 use folder_core::Event;
 use frs_base::{Guid, List, Uid};
@@ -85,7 +86,10 @@ impl Engine {
     ghost use Rattle.std.specs.Prelude.{◌+◌, ℕ};
     ghost use Rattle.win_order.specs.declared.update.Update.{Update};
     ghost use Rattle.world_model.specs.World.{World};
-    ghost use Rattle.script_engine.specs.Engines.{HasScene, Stands, made_by_all};
+    ghost use Rattle.script_lang.specs.Grammar.{is_member_name};
+    ghost use Rattle.script_lang.specs.declared.line.Line.TheVariants.{Pull};
+    ghost use Rattle.script_engine.specs.Engines.{HasRoom, HasScene, Stands, made_by_all};
+    ghost use Rattle.script_engine.specs.Text.{Does};
     ghost use Rattle.script_engine.specs.Pulls.{AreCovered, ArePages, CanTake, Ended, FetchedFrom, FilesTaken, IsPinned, MayEnd, MayFetch, MayFinish, MayPage, MayTake, PagesTaken, PullEnds, Says, Took};
 
     /// The vector and the records of the member with this place.
@@ -309,6 +313,35 @@ impl Engine {
         match self.finish(alloc, at, server, entry, pinned.vector, seen)? {
             Ok(()) => Ok(Ok(taken)),
             Err(refusal) => Ok(Err(refusal)),
+        }
+    }
+
+    /// A round in which the member with the first name pulls from the one with the other.
+    pub(super) fn pull_line(
+        &mut self,
+        alloc: Global,
+        name: &[u8],
+        other: &[u8],
+    ) -> Result<String, AllocError>
+        requires name { is_member_name name.now ≡ true }
+        requires other { is_member_name other.now ≡ true }
+        requires scene { HasScene self.old }
+        requires room { HasRoom self.old }
+        ensures ok { (s : Scene) → Stands self.old s → IfOk result (λ text. (new : Scene) × Does s (Pull name.now other.now) (string_bytes text) new × Stands self.new new) }
+        ensures made { OnOk result (made_by_all self.new ≤ made_by_all self.old + 1) }
+    {
+        let Some(at) = self.place_of(name) else {
+            return unknown_text(alloc, name);
+        };
+        let Some(from) = self.place_of(other) else {
+            return unknown_text(alloc, other);
+        };
+        if name == other {
+            return refusal_text(alloc, &Refusal::Itself);
+        }
+        match self.pull(alloc, at, from)? {
+            Ok(taken) => pulled_text(alloc, taken),
+            Err(refusal) => refusal_text(alloc, &refusal),
         }
     }
 }

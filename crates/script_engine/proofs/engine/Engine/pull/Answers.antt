@@ -1,0 +1,178 @@
+use Rattle.std.proofs.Common.{◌≡◌, ◌+◌, ◌∙◌, ap, sym, subst, Some, None, Ok, Err}
+use Rattle.frs_base.specs.Identifiers.{database_of}
+use Rattle.world_model.specs.Events.{sends_vector}
+use Rattle.script_engine.specs.Pulls.{AreCovered, ArePages, Ended, FilesTaken, MayFinish, PagesTaken}
+use Rattle.script_engine.specs.Scene.{in_world}
+use Rattle.script_engine.proofs.Whole.{all_taken, cut_at_end, cut_in_files, cut_in_pages, listed_covered, may_finish, pages_are, pull_asked}
+use Rattle.script_engine.proofs.engine.Engine.pull.Goals as goal
+
+pub take_pages-requires-clause-may : goal.take_pages-requires-clause-may
+take_pages-requires-clause-may c =
+    let p = database_of (c.args.at + 1) in
+    let e = database_of (c.args.from + 1) in
+    let pinned = c.in_ok-pinned.pinned in
+    let page = c.in_ok-page.page.items in
+    let server = c.database-server.ensures in
+    let (s, stands) = c.requires.scene in
+    let sent = sends_vector s.world e in
+    let (is, on) = c.in_ok-pinned.ensures.ok s stands in
+    let vector = c.vector.ensures.vector ∙ ap (λ b. b.vector) c.book.ensures.book in
+    let asked = pull_asked c.args.self.now c.ask.new.self s c.args.at e pinned c.folder.result.now c.vector.result.now c.as_slice.result.now page stands on is c.folder.ensures vector c.as_slice.ensures.records c.in_ok-page.ensures in
+    let pages = pages_are s.world p e page asked in
+    let given = subst (ArePages sent c.database-server.result) (sym c.deref.ensures.value) (subst (λ n. ArePages sent n page) (sym server) pages) in
+    (in_world s sent, on, given)
+
+pub returns-in-Err-clause-ok : goal.returns-in-Err-clause-ok
+returns-in-Err-clause-ok c = λ s stands.
+    let p = database_of (c.args.at + 1) in
+    let e = database_of (c.args.from + 1) in
+    let pinned = c.in_ok-pinned.pinned in
+    let page = c.in_ok-page.page.items in
+    let server = c.database-server.ensures in
+    let sent = sends_vector s.world e in
+    let (is, on) = c.in_ok-pinned.ensures.ok s stands in
+    let vector = c.vector.ensures.vector ∙ ap (λ b. b.vector) c.book.ensures.book in
+    let asked = pull_asked c.args.self.now c.ask.new.self s c.args.at e pinned c.folder.result.now c.vector.result.now c.as_slice.result.now page stands on is c.folder.ensures vector c.as_slice.ensures.records c.in_ok-page.ensures in
+    let pages = pages_are s.world p e page asked in
+    let given = subst (ArePages sent c.database-server.result) (sym c.deref.ensures.value) (subst (λ n. ArePages sent n page) (sym server) pages) in
+    let (paged, took, on1) = c.in_ok-paged.ensures.ok (in_world s sent) on given in
+    let took1 = subst (λ n. PagesTaken sent p n page c.in_ok-paged.field-0 paged) server (subst (λ l. PagesTaken sent p c.database-server.result l c.in_ok-paged.field-0 paged) c.deref.ensures.value took) in
+    let cut = subst (λ o. PagesTaken sent p e page o paged) c.in-Err.is took1 in
+    (paged, cut_in_pages s.world p e page c.in-Err.refusal paged asked cut, on1)
+
+pub take_files-requires-clause-may : goal.take_files-requires-clause-may
+take_files-requires-clause-may c =
+    let p = database_of (c.args.at + 1) in
+    let e = database_of (c.args.from + 1) in
+    let pinned = c.in_ok-pinned.pinned in
+    let page = c.in_ok-page.page.items in
+    let server = c.database-server.ensures in
+    let (s, stands) = c.requires.scene in
+    let sent = sends_vector s.world e in
+    let (is, on) = c.in_ok-pinned.ensures.ok s stands in
+    let vector = c.vector.ensures.vector ∙ ap (λ b. b.vector) c.book.ensures.book in
+    let asked = pull_asked c.args.self.now c.ask.new.self s c.args.at e pinned c.folder.result.now c.vector.result.now c.as_slice.result.now page stands on is c.folder.ensures vector c.as_slice.ensures.records c.in_ok-page.ensures in
+    let pages = pages_are s.world p e page asked in
+    let given = subst (ArePages sent c.database-server.result) (sym c.deref.ensures.value) (subst (λ n. ArePages sent n page) (sym server) pages) in
+    let (paged, took, on1) = c.in_ok-paged.ensures.ok (in_world s sent) on given in
+    let took1 = subst (λ n. PagesTaken sent p n page c.in_ok-paged.field-0 paged) server (subst (λ l. PagesTaken sent p c.database-server.result l c.in_ok-paged.field-0 paged) c.deref.ensures.value took) in
+    let all1 = subst (λ o. PagesTaken sent p e page o paged) c.in-Ok.is took1 in
+    let (pages_took, treated, grown) = all1 in
+    let listed = c.in-Ok.paged.listed.items in
+    let covered = listed_covered s.world p e page listed paged asked treated grown in
+    let files = subst (AreCovered paged e) (sym c.deref-2.ensures.value) covered in
+    (in_world s paged, on1, files)
+
+pub returns-in-Err-2-clause-ok : goal.returns-in-Err-2-clause-ok
+returns-in-Err-2-clause-ok c = λ s stands.
+    let p = database_of (c.args.at + 1) in
+    let e = database_of (c.args.from + 1) in
+    let pinned = c.in_ok-pinned.pinned in
+    let page = c.in_ok-page.page.items in
+    let server = c.database-server.ensures in
+    let sent = sends_vector s.world e in
+    let (is, on) = c.in_ok-pinned.ensures.ok s stands in
+    let vector = c.vector.ensures.vector ∙ ap (λ b. b.vector) c.book.ensures.book in
+    let asked = pull_asked c.args.self.now c.ask.new.self s c.args.at e pinned c.folder.result.now c.vector.result.now c.as_slice.result.now page stands on is c.folder.ensures vector c.as_slice.ensures.records c.in_ok-page.ensures in
+    let pages = pages_are s.world p e page asked in
+    let given = subst (ArePages sent c.database-server.result) (sym c.deref.ensures.value) (subst (λ n. ArePages sent n page) (sym server) pages) in
+    let (paged, took, on1) = c.in_ok-paged.ensures.ok (in_world s sent) on given in
+    let took1 = subst (λ n. PagesTaken sent p n page c.in_ok-paged.field-0 paged) server (subst (λ l. PagesTaken sent p c.database-server.result l c.in_ok-paged.field-0 paged) c.deref.ensures.value took) in
+    let all1 = subst (λ o. PagesTaken sent p e page o paged) c.in-Ok.is took1 in
+    let (pages_took, treated, grown) = all1 in
+    let listed = c.in-Ok.paged.listed.items in
+    let covered = listed_covered s.world p e page listed paged asked treated grown in
+    let files = subst (AreCovered paged e) (sym c.deref-2.ensures.value) covered in
+    let (filed, got, on2) = c.in_ok-fetched.ensures.ok (in_world s paged) on1 files in
+    let got2 = subst (λ l. FilesTaken paged p e l c.in_ok-fetched.field-0 filed) c.deref-2.ensures.value got in
+    let cut = subst (λ o. FilesTaken paged p e listed o filed) c.in-Err-2.is got2 in
+    (filed, cut_in_files s.world p e page c.in-Ok.paged paged c.in-Err-2.refusal filed asked all1 cut, on2)
+
+pub finish-requires-clause-may : goal.finish-requires-clause-may
+finish-requires-clause-may c =
+    let p = database_of (c.args.at + 1) in
+    let e = database_of (c.args.from + 1) in
+    let pinned = c.in_ok-pinned.pinned in
+    let page = c.in_ok-page.page.items in
+    let server = c.database-server.ensures in
+    let (s, stands) = c.requires.scene in
+    let sent = sends_vector s.world e in
+    let (is, on) = c.in_ok-pinned.ensures.ok s stands in
+    let vector = c.vector.ensures.vector ∙ ap (λ b. b.vector) c.book.ensures.book in
+    let asked = pull_asked c.args.self.now c.ask.new.self s c.args.at e pinned c.folder.result.now c.vector.result.now c.as_slice.result.now page stands on is c.folder.ensures vector c.as_slice.ensures.records c.in_ok-page.ensures in
+    let pages = pages_are s.world p e page asked in
+    let given = subst (ArePages sent c.database-server.result) (sym c.deref.ensures.value) (subst (λ n. ArePages sent n page) (sym server) pages) in
+    let (paged, took, on1) = c.in_ok-paged.ensures.ok (in_world s sent) on given in
+    let took1 = subst (λ n. PagesTaken sent p n page c.in_ok-paged.field-0 paged) server (subst (λ l. PagesTaken sent p c.database-server.result l c.in_ok-paged.field-0 paged) c.deref.ensures.value took) in
+    let all1 = subst (λ o. PagesTaken sent p e page o paged) c.in-Ok.is took1 in
+    let (pages_took, treated, grown) = all1 in
+    let listed = c.in-Ok.paged.listed.items in
+    let covered = listed_covered s.world p e page listed paged asked treated grown in
+    let files = subst (AreCovered paged e) (sym c.deref-2.ensures.value) covered in
+    let (filed, got, on2) = c.in_ok-fetched.ensures.ok (in_world s paged) on1 files in
+    let got2 = subst (λ l. FilesTaken paged p e l c.in_ok-fetched.field-0 filed) c.deref-2.ensures.value got in
+    let all2 = subst (λ o. FilesTaken paged p e listed o filed) c.in-Ok-2.is got2 in
+    let (files_took, held, more) = all2 in
+    let may = may_finish s.world p e pinned.vector page listed paged filed on.machines.scene.world.invariant.versions is.vector asked treated grown held more in
+    let seen = subst (MayFinish filed p (s.world.at e).known pinned.vector) (sym c.of-seen.ensures) may in
+    (in_world s filed, (s.world.at e).known, on2, seen)
+
+pub returns-in-Ok-3-clause-ok : goal.returns-in-Ok-3-clause-ok
+returns-in-Ok-3-clause-ok c = λ s stands.
+    let p = database_of (c.args.at + 1) in
+    let e = database_of (c.args.from + 1) in
+    let pinned = c.in_ok-pinned.pinned in
+    let page = c.in_ok-page.page.items in
+    let server = c.database-server.ensures in
+    let sent = sends_vector s.world e in
+    let (is, on) = c.in_ok-pinned.ensures.ok s stands in
+    let vector = c.vector.ensures.vector ∙ ap (λ b. b.vector) c.book.ensures.book in
+    let asked = pull_asked c.args.self.now c.ask.new.self s c.args.at e pinned c.folder.result.now c.vector.result.now c.as_slice.result.now page stands on is c.folder.ensures vector c.as_slice.ensures.records c.in_ok-page.ensures in
+    let pages = pages_are s.world p e page asked in
+    let given = subst (ArePages sent c.database-server.result) (sym c.deref.ensures.value) (subst (λ n. ArePages sent n page) (sym server) pages) in
+    let (paged, took, on1) = c.in_ok-paged.ensures.ok (in_world s sent) on given in
+    let took1 = subst (λ n. PagesTaken sent p n page c.in_ok-paged.field-0 paged) server (subst (λ l. PagesTaken sent p c.database-server.result l c.in_ok-paged.field-0 paged) c.deref.ensures.value took) in
+    let all1 = subst (λ o. PagesTaken sent p e page o paged) c.in-Ok.is took1 in
+    let (pages_took, treated, grown) = all1 in
+    let listed = c.in-Ok.paged.listed.items in
+    let covered = listed_covered s.world p e page listed paged asked treated grown in
+    let files = subst (AreCovered paged e) (sym c.deref-2.ensures.value) covered in
+    let (filed, got, on2) = c.in_ok-fetched.ensures.ok (in_world s paged) on1 files in
+    let got2 = subst (λ l. FilesTaken paged p e l c.in_ok-fetched.field-0 filed) c.deref-2.ensures.value got in
+    let all2 = subst (λ o. FilesTaken paged p e listed o filed) c.in-Ok-2.is got2 in
+    let (files_took, held, more) = all2 in
+    let may = may_finish s.world p e pinned.vector page listed paged filed on.machines.scene.world.invariant.versions is.vector asked treated grown held more in
+    let seen = subst (MayFinish filed p (s.world.at e).known pinned.vector) (sym c.of-seen.ensures) may in
+    let (after, ended, on3) = c.in_ok-finish.ensures.ok (in_world s filed) (s.world.at e).known on2 seen in
+    let ends = subst (λ o. Ended filed p (s.world.at e).known o after) c.in-Ok-3.is ended in
+    (after, all_taken s.world p e page c.in-Ok.paged paged c.in-Ok-2.fetched filed after asked all1 all2 ends, on3)
+
+pub returns-clause-ok : goal.returns-clause-ok
+returns-clause-ok c = λ s stands.
+    let p = database_of (c.args.at + 1) in
+    let e = database_of (c.args.from + 1) in
+    let pinned = c.in_ok-pinned.pinned in
+    let page = c.in_ok-page.page.items in
+    let server = c.database-server.ensures in
+    let sent = sends_vector s.world e in
+    let (is, on) = c.in_ok-pinned.ensures.ok s stands in
+    let vector = c.vector.ensures.vector ∙ ap (λ b. b.vector) c.book.ensures.book in
+    let asked = pull_asked c.args.self.now c.ask.new.self s c.args.at e pinned c.folder.result.now c.vector.result.now c.as_slice.result.now page stands on is c.folder.ensures vector c.as_slice.ensures.records c.in_ok-page.ensures in
+    let pages = pages_are s.world p e page asked in
+    let given = subst (ArePages sent c.database-server.result) (sym c.deref.ensures.value) (subst (λ n. ArePages sent n page) (sym server) pages) in
+    let (paged, took, on1) = c.in_ok-paged.ensures.ok (in_world s sent) on given in
+    let took1 = subst (λ n. PagesTaken sent p n page c.in_ok-paged.field-0 paged) server (subst (λ l. PagesTaken sent p c.database-server.result l c.in_ok-paged.field-0 paged) c.deref.ensures.value took) in
+    let all1 = subst (λ o. PagesTaken sent p e page o paged) c.in-Ok.is took1 in
+    let (pages_took, treated, grown) = all1 in
+    let listed = c.in-Ok.paged.listed.items in
+    let covered = listed_covered s.world p e page listed paged asked treated grown in
+    let files = subst (AreCovered paged e) (sym c.deref-2.ensures.value) covered in
+    let (filed, got, on2) = c.in_ok-fetched.ensures.ok (in_world s paged) on1 files in
+    let got2 = subst (λ l. FilesTaken paged p e l c.in_ok-fetched.field-0 filed) c.deref-2.ensures.value got in
+    let all2 = subst (λ o. FilesTaken paged p e listed o filed) c.in-Ok-2.is got2 in
+    let (files_took, held, more) = all2 in
+    let may = may_finish s.world p e pinned.vector page listed paged filed on.machines.scene.world.invariant.versions is.vector asked treated grown held more in
+    let seen = subst (MayFinish filed p (s.world.at e).known pinned.vector) (sym c.of-seen.ensures) may in
+    let (after, ended, on3) = c.in_ok-finish.ensures.ok (in_world s filed) (s.world.at e).known on2 seen in
+    let ends = subst (λ o. Ended filed p (s.world.at e).known o after) c.in-Err-3.is ended in
+    (after, cut_at_end s.world p e page c.in-Ok.paged paged c.in-Ok-2.fetched filed c.in-Err-3.refusal after asked all1 all2 ends, on3)
