@@ -22,17 +22,19 @@ use Rattle.script_engine.specs.declared.engine.Engine.{Engine}
 use Rattle.script_engine.specs.declared.names.MemberName.{MemberName}
 use Rattle.script_engine.specs.declared.refusal.Refusal.{Refusal}
 use Rattle.script_engine.specs.declared.refusal.Refusal.TheVariants.{Exists, Itself, Unknown}
-use Rattle.script_engine.specs.Engines.{Stands, machines_of, made_by_all}
+use Rattle.script_engine.specs.Engines.{AtNamed, Stands, machines_of, made_by_all}
 use Rattle.script_engine.specs.Named.{AreNamed}
 use Rattle.script_engine.specs.Printed.{printed}
 use Rattle.script_engine.specs.Pulling.{Pulls}
 use Rattle.script_engine.specs.Pulls.{PullEnds}
-use Rattle.script_engine.specs.Refusals.{first_refusal, refused_text}
+use Rattle.script_engine.specs.Refusals.{first_refusal, refused_text, unless_named}
 use Rattle.script_engine.specs.Scene.{IsNamed, Scene, in_world, members_of, numbered, place_of, with_name}
 use Rattle.script_engine.specs.Sound.{IsNobodys}
 use Rattle.script_engine.specs.Standing.{MachineStands, MachinesStand, consumed_in, made_in}
 use Rattle.script_engine.specs.Text.{Acts, Does, IsRefused, text_unless}
+use Rattle.script_engine.proofs.Events.{ok_by}
 use Rattle.script_engine.proofs.Scenes.{sound_with_name}
+use Rattle.script_engine.proofs.Spoken.{does_at}
 use Rattle.script_engine.proofs.Texts.{said_of}
 use Rattle.script_engine.proofs.Volumes.{fresh_lists}
 
@@ -167,3 +169,21 @@ stands_more old new s name kind m f h formed names folders named fresh order = r
         map_push : (xs : List Seen) (y : Seen) → map (λ (x : Seen). x.machine) (xs ++ y ∷ []) ≡ map (λ (x : Seen). x.machine) xs ++ y.machine ∷ []
         map_push [] y = refl
         map_push (x ∷ xs) y = ap (λ l. x.machine ∷ l) (map_push xs y)
+
+-- ---- lines at a member
+
+pub named_line : {E : Type 0} (s : Scene) (line given : Line) (name : List ℕ) (C : ℕ → List ℕ → Scene → Type 0) (r : Result (String Global) E) (after : Engine) → line ≡ given → first_refusal s line ≡ unless_named s name
+    → ((d : ℕ) (text : List ℕ) (new : Scene) → IsNamed s name d → C d text new → Acts s line text new) → IfOk r (λ text. (new : Scene) × AtNamed s name C (string_bytes text) new × Stands after new)
+    → IfOk r (λ text. (new : Scene) × Does s given (string_bytes text) new × Stands after new)
+named_line s line given name C r after same first acts said =
+    subst (λ l. IfOk r (λ text. (new : Scene) × Does s l (string_bytes text) new × Stands after new)) same
+    (ok_by r (λ text. (new : Scene) × AtNamed s name C (string_bytes text) new × Stands after new) (λ text. (new : Scene) × Does s line (string_bytes text) new × Stands after new) said
+    (λ text (new, comes, stands). (new, does_at s line name C (string_bytes text) new first (λ d named c. acts d (string_bytes text) new named c) comes, stands)))
+
+pub printed_line : {E : Type 0} (s : Scene) (line given : Line) (name : List ℕ) (C : ℕ → List ℕ → Scene → Type 0) (r : Result (String Global) E) (after : Engine) → line ≡ given → first_refusal s line ≡ unless_named s name
+    → ((d : ℕ) (text : List ℕ) → IsNamed s name d → C d text s → Acts s line text s) → Stands after s → IfOk r (λ text. AtNamed s name C (string_bytes text) s)
+    → IfOk r (λ text. (new : Scene) × Does s given (string_bytes text) new × Stands after new)
+printed_line s line given name C r after same first acts stands said =
+    subst (λ l. IfOk r (λ text. (new : Scene) × Does s l (string_bytes text) new × Stands after new)) same
+    (ok_by r (λ text. AtNamed s name C (string_bytes text) s) (λ text. (new : Scene) × Does s line (string_bytes text) new × Stands after new) said
+    (λ text comes. (s, does_at s line name C (string_bytes text) s first (λ d named c. acts d (string_bytes text) named c) comes, stands)))
