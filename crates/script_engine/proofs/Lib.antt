@@ -24,6 +24,7 @@ pub mod Puller
 pub mod Paging
 pub mod Asking
 pub mod Whole
+pub mod Speaking
 pub mod Orders
 pub mod Once
 pub mod OneText

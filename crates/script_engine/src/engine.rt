@@ -1,5 +1,5 @@
 // The members of a script.
-ghost use Rattle.std.specs.Prelude.{◌≡◌, ◌<◌, ◌≤◌, ◌^◌, IfOk, OnOk, Some, bytes_eq, length, position, slice_get};
+ghost use Rattle.std.specs.Prelude.{◌≡◌, ◌<◌, ◌≤◌, ◌^◌, IfOk, OnOk, Some, bytes_eq, length, position, slice_get, string_bytes, true};
 ghost use Rattle.frs_base.specs.Identifiers.{database_of};
 ghost use Rattle.folder_core.specs.Replay.{IsEarlyEvent};
 ghost use Rattle.script_engine.specs.Scene.{Scene, fresh_scene, in_world};
@@ -9,10 +9,13 @@ mod operations;
 mod printing;
 mod pulling;
 
+use crate::lines::{exists_text, ok_text};
 use crate::replies::{consumed_of, usn_of};
 use crate::{Consumed, MemberName, Refusal};
+use self::operations::{copy_bytes, mkdir_of, move_of, put_of, remove_of};
 use folder_core::{Event, Folder, Reply};
-use frs_base::{Guid, ReservedVec};
+use frs_base::{Bytes, Guid, MemberKind, ReservedVec, content_set, database_of};
+use script_lang::Line;
 use std::alloc::{AllocError, Global};
 use vol_state::{LocalOp, Refused};
 
@@ -28,8 +31,11 @@ pub struct Engine {
 
 impl Engine {
     ghost use Rattle.std.specs.Prelude.{◌+◌, ℕ};
+    ghost use Rattle.script_lang.specs.Grammar.{IsLine, is_member_name};
+    ghost use Rattle.script_lang.specs.declared.line.Line.TheVariants as Line;
     ghost use Rattle.world_model.specs.World.{World};
-    ghost use Rattle.script_engine.specs.Engines.{Answered, ConsumedAll, ConsumedNext, HasScene, IsWithin, Operated, Stands, consumed_by_all, count_of, made_by_all};
+    ghost use Rattle.script_engine.specs.Text.{Does};
+    ghost use Rattle.script_engine.specs.Engines.{Answered, ConsumedAll, ConsumedNext, HasRoom, HasScene, IsWithin, Operated, Stands, consumed_by_all, count_of, made_by_all};
 
     /// An engine without members, which takes no memory.
     pub fn new() -> Engine
@@ -165,6 +171,69 @@ impl Engine {
                 Ok(None) => return Ok(Ok(last)),
                 Err(refusal) => return Ok(Err(refusal)),
             }
+        }
+    }
+
+    /// A new member of this name and kind.
+    fn add(&mut self, alloc: Global, name: &Bytes, kind: MemberKind) -> Result<String, AllocError>
+        requires name { is_member_name name.now ≡ true }
+        requires scene { HasScene self.old }
+        ensures ok { (s : Scene) → Stands self.old s → IfOk result (λ text. (new : Scene) × Does s (Line.Member name.now kind) (string_bytes text) new × Stands self.new new) }
+        ensures made { OnOk result (made_by_all self.new ≤ made_by_all self.old + 1) }
+    {
+        if self.place_of(name.as_slice()).is_some() {
+            return exists_text(alloc, name.as_slice());
+        }
+        let text = ok_text(alloc)?;
+        let name = copy_bytes(alloc, name)?;
+        self.names.reserve_one(alloc)?;
+        self.folders.reserve_one(alloc)?;
+        let db = database_of(self.names.as_slice().len() as u64 + 1);
+        let folder = Folder::new(kind, db, content_set());
+        let _ = folder.book();
+        self.names.push(MemberName { db, name });
+        self.folders.push(folder);
+        Ok(text)
+    }
+
+    /// Does a line, and gives what it prints.
+    ///
+    /// After want of memory some of the line's events may have taken place; no further line is to be
+    /// run then.
+    pub fn run(&mut self, alloc: Global, line: &Line) -> Result<String, AllocError>
+        requires line { IsLine line.now }
+        requires scene { HasScene self.old }
+        requires room { HasRoom self.old }
+        ensures ok { (s : Scene) → Stands self.old s → IfOk result (λ text. (new : Scene) × Does s line.now (string_bytes text) new × Stands self.new new) }
+        ensures within { (n : ℕ) → IsWithin n self.old → OnOk result (IsWithin (n + 1) self.new) }
+    {
+        match line {
+            Line::Member { name, kind } => self.add(alloc, name, *kind),
+            Line::Put { name, path, text } => {
+                let operation = put_of(alloc, path, text)?;
+                self.local(alloc, name.as_slice(), operation)
+            }
+            Line::Fill { name, path, length } => self.fill(alloc, name.as_slice(), path, *length),
+            Line::Mkdir { name, path } => {
+                let operation = mkdir_of(alloc, path)?;
+                self.local(alloc, name.as_slice(), operation)
+            }
+            Line::Move { name, from, to } => {
+                let operation = move_of(alloc, from, to)?;
+                self.local(alloc, name.as_slice(), operation)
+            }
+            Line::Remove { name, path } => {
+                let operation = remove_of(alloc, path)?;
+                self.local(alloc, name.as_slice(), operation)
+            }
+            Line::Consume { name, moment } => self.consume_line(alloc, name.as_slice(), *moment),
+            Line::Change { name, path, moment } => {
+                self.change(alloc, name.as_slice(), path, *moment)
+            }
+            Line::Pull { name, other } => self.pull_line(alloc, name.as_slice(), other.as_slice()),
+            Line::Show { name } => self.show(alloc, name.as_slice()),
+            Line::Tree { name } => self.tree(alloc, name.as_slice()),
+            Line::Count { name } => self.count(alloc, name.as_slice()),
         }
     }
 }

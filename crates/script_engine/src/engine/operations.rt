@@ -28,7 +28,7 @@ fn copy_path(alloc: Global, path: &List<Name>) -> Result<List<Name>, AllocError>
 }
 
 /// The same bytes in memory of their own.
-fn copy_bytes(alloc: Global, bytes: &Bytes) -> Result<Bytes, AllocError>
+pub(super) fn copy_bytes(alloc: Global, bytes: &Bytes) -> Result<Bytes, AllocError>
     ensures { IfOk result (λ copy. copy ≡ bytes.now) }
 {
     Ok(Bytes::of(Vec::from_slice(alloc, bytes.as_slice())?))
