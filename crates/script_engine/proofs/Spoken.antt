@@ -157,8 +157,13 @@ pub shown : (e : Engine) (s : Scene) (name : List ℕ) (at : ℕ) (f : Seen) (te
 shown e s name at f text h some found is =
     let m = machine_held e s at f h found in
     at_some s name (λ d said after. Shows s d said × (after ≡ s)) at text s (sym (place_is e s name h) ∙ some) (
-      (f.machine.book.vector, f.machine.book.records, vector_of s.world.all _ _ f.machine m, m.book.records,
-      is ∙ (λ i. vector_text (h.names i) f.machine.book.vector ++ records_text (h.names i) f.machine.book.records)),
+      (
+        f.machine.book.vector,
+        f.machine.book.records,
+        vector_of s.world.all _ _ f.machine m,
+        m.book.records,
+        is ∙ (λ i. vector_text (h.names i) f.machine.book.vector ++ records_text (h.names i) f.machine.book.records),
+      ),
       refl,
     )
 

@@ -9,10 +9,10 @@ mod operations;
 mod printing;
 mod pulling;
 
+use self::operations::{copy_bytes, mkdir_of, move_of, put_of, remove_of};
 use crate::lines::{exists_text, ok_text};
 use crate::replies::{consumed_of, usn_of};
 use crate::{Consumed, MemberName, Refusal};
-use self::operations::{copy_bytes, mkdir_of, move_of, put_of, remove_of};
 use folder_core::{Event, Folder, Reply};
 use frs_base::{Bytes, Guid, MemberKind, ReservedVec, content_set, database_of};
 use script_lang::Line;

@@ -46,11 +46,7 @@ fn filled_bytes(alloc: Global, length: u64) -> Result<Bytes, AllocError>
 }
 
 /// A put of these contents.
-pub(super) fn put_of(
-    alloc: Global,
-    path: &List<Name>,
-    bytes: &Bytes,
-) -> Result<LocalOp, AllocError>
+pub(super) fn put_of(alloc: Global, path: &List<Name>, bytes: &Bytes) -> Result<LocalOp, AllocError>
     ensures { IfOk result (λ operation. operation ≡ Put path.now bytes.now) }
 {
     Ok(LocalOp::Put {

@@ -57,11 +57,7 @@ fn is_file(update: &Update) -> bool
 }
 
 /// Those whose versions a vector doesn't cover.
-fn uncovered(
-    alloc: Global,
-    vector: &Vector,
-    records: &[Update],
-) -> Result<Vec<Update>, AllocError>
+fn uncovered(alloc: Global, vector: &Vector, records: &[Update]) -> Result<Vec<Update>, AllocError>
     ensures { IfOk result (λ page. page.items ≡ uncovered vector.now records.now) }
 {
     let mut page = Vec::new(alloc);

@@ -37,7 +37,8 @@ returns-clause-ok c = λ s stands.
     let named : m ≡ record { db = database_of (length e.names.items + 1); name = name } = λ i. record { db = db i; name = c.in_ok-name.ensures i } in
     let names = c.push.ensures.items ∙ ap (λ l. l ++ m ∷ []) c.reserve_one.ensures.items in
     let folders = c.push-2.ensures.items ∙ ap (λ l. l ++ c.new-folder.result ∷ []) c.reserve_one-2.ensures.items in
-    let fresh = ap (λ f. f.machine) c.new-folder.ensures ∙ (λ i. fresh_machine kind (db i) (c.content_set.ensures i)) in
-    (with_name s name kind,
-    subst (λ t. Does s (lines.Member name kind) t (with_name s name kind)) (sym c.in_ok-text.ensures) (does_act s (lines.Member name kind) _ (with_name s name kind) (member_new s name kind free) (refl, refl)),
-    stands_more e new s name kind m c.new-folder.result stands c.requires.name names folders named fresh c.book.ensures.sound.order)
+    let fresh = ap (λ f. f.machine) c.new-folder.ensures ∙ (λ i. fresh_machine kind (db i) (c.content_set.ensures i)) in (
+      with_name s name kind,
+      subst (λ t. Does s (lines.Member name kind) t (with_name s name kind)) (sym c.in_ok-text.ensures) (does_act s (lines.Member name kind) _ (with_name s name kind) (member_new s name kind free) (refl, refl)),
+      stands_more e new s name kind m c.new-folder.result stands c.requires.name names folders named fresh c.book.ensures.sound.order,
+    )

@@ -90,10 +90,11 @@ loop-file-preserved c = elim c.if-wants.branch [
             let can = subst (λ n. CanTake w p n v) (sym l.server) (file_can w p e u v known wanted file of_file) in
             let (next, took, after) = b.in_ok-refusal.ensures.ok (in_world s w) there can in
             let takes = subst (λ o. Took w p e v o next) b.in_default.is (subst (λ n. Took w p n v b.in_ok-refusal.field-0 next) l.server took) in
-            let sound = on.machines.scene.world.invariant in
-            (next,
-            subst (FilesSo s.world p e files (i + 1) next) (sym b.taken-is) (files_take s.world p e files i w c.loop-file.taken u v next sound.versions sound.sent so c.loop-file-test.true c.file-item.is known wanted file of_file takes),
-            subst (λ x. Stands x (in_world s next)) (sym b.self-is) after);
+            let sound = on.machines.scene.world.invariant in (
+              next,
+              subst (FilesSo s.world p e files (i + 1) next) (sym b.taken-is) (files_take s.world p e files i w c.loop-file.taken u v next sound.versions sound.sent so c.loop-file-test.true c.file-item.is known wanted file of_file takes),
+              subst (λ x. Stands x (in_world s next)) (sym b.self-is) after,
+            );
       }
   | else-wants b ↦
       let l = c.loop-file.invariant in

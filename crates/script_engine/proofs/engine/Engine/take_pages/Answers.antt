@@ -59,9 +59,11 @@ loop-update-preserved c = elim c.if-wants.branch [
             let wanted = said_yes c.wants.result (IsWanted w p u) (c.wants.ensures (in_world s w) on) b.if-wants.true in
             let file : is_file u ≡ true = sym b.is_file.ensures ∙ b.if-is_file.true in
             let listed : c.if-wants.listed.items ≡ c.loop-update.listed.items ++ u ∷ [] = ap (λ v. v.items) b.listed-is ∙ b.in_ok-push.ensures.items ∙ (λ j. c.loop-update.listed.items ++ b.in_ok-copy.ensures j ∷ []) in
-            let so' = pages_list s.world p e page i w c.loop-update.listed.items c.loop-update.taken u so c.loop-update-test.true c.update-item.is wanted file in
-            (w, subst (λ x. PagesSo s.world p e page (i + 1) w x c.if-wants.taken) (sym listed) (subst (PagesSo s.world p e page (i + 1) w (c.loop-update.listed.items ++ u ∷ [])) (sym b.taken-is) so'),
-            subst (λ x. Stands x (in_world s w)) (sym b.self-is) on);
+            let so' = pages_list s.world p e page i w c.loop-update.listed.items c.loop-update.taken u so c.loop-update-test.true c.update-item.is wanted file in (
+              w,
+              subst (λ x. PagesSo s.world p e page (i + 1) w x c.if-wants.taken) (sym listed) (subst (PagesSo s.world p e page (i + 1) w (c.loop-update.listed.items ++ u ∷ [])) (sym b.taken-is) so'),
+              subst (λ x. Stands x (in_world s w)) (sym b.self-is) on,
+            );
       }
   | then-wants+else-is_file+in_ok-update+in_ok-refusal+in_default b ↦
       let l = c.loop-update.invariant in
@@ -83,9 +85,11 @@ loop-update-preserved c = elim c.if-wants.branch [
             let file : is_file u ≡ false = sym b.is_file.ensures ∙ b.if-is_file.false in
             let listed : c.if-wants.listed.items ≡ c.loop-update.listed.items = ap (λ v. v.items) b.listed-is in
             let sound = on.machines.scene.world.invariant in
-            let so' = pages_take s.world p e page i w c.loop-update.listed.items c.loop-update.taken u next sound.versions sound.sent so c.loop-update-test.true c.update-item.is file takes in
-            (next, subst (λ x. PagesSo s.world p e page (i + 1) next x c.if-wants.taken) (sym listed) (subst (PagesSo s.world p e page (i + 1) next c.loop-update.listed.items) (sym b.taken-is) so'),
-            subst (λ x. Stands x (in_world s next)) (sym b.self-is) after);
+            let so' = pages_take s.world p e page i w c.loop-update.listed.items c.loop-update.taken u next sound.versions sound.sent so c.loop-update-test.true c.update-item.is file takes in (
+              next,
+              subst (λ x. PagesSo s.world p e page (i + 1) next x c.if-wants.taken) (sym listed) (subst (PagesSo s.world p e page (i + 1) next c.loop-update.listed.items) (sym b.taken-is) so'),
+              subst (λ x. Stands x (in_world s next)) (sym b.self-is) after,
+            );
       }
   | else-wants b ↦
       let l = c.loop-update.invariant in
@@ -102,9 +106,11 @@ loop-update-preserved c = elim c.if-wants.branch [
             let (w, so, on) = l.ran s stands pages in
             let never = said_no c.wants.result (IsWanted w p u) (c.wants.ensures (in_world s w) on) b.if-wants.false in
             let listed : c.if-wants.listed.items ≡ c.loop-update.listed.items = ap (λ v. v.items) b.listed-is in
-            let so' = pages_pass s.world p e page i w c.loop-update.listed.items c.loop-update.taken u so c.loop-update-test.true c.update-item.is never in
-            (w, subst (λ x. PagesSo s.world p e page (i + 1) w x c.if-wants.taken) (sym listed) (subst (PagesSo s.world p e page (i + 1) w c.loop-update.listed.items) (sym b.taken-is) so'),
-            subst (λ x. Stands x (in_world s w)) (sym b.self-is) on);
+            let so' = pages_pass s.world p e page i w c.loop-update.listed.items c.loop-update.taken u so c.loop-update-test.true c.update-item.is never in (
+              w,
+              subst (λ x. PagesSo s.world p e page (i + 1) w x c.if-wants.taken) (sym listed) (subst (PagesSo s.world p e page (i + 1) w c.loop-update.listed.items) (sym b.taken-is) so'),
+              subst (λ x. Stands x (in_world s w)) (sym b.self-is) on,
+            );
       }
 ]
 
