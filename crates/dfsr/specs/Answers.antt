@@ -1,11 +1,11 @@
 -- What each status says of the bytes read and the bytes written.
-use Rattle.std.specs.Prelude.{◌≡◌, ◌⊎◌, ◌<◌, ◌≤◌, ℕ, Bool, true, false, List, count_by, length}
+use Rattle.std.specs.Prelude.{◌≡◌, ◌⊎◌, ◌<◌, ◌≤◌, ◌++◌, ℕ, Bool, true, false, List, [], ◌∷◌, codes, count_by, decimal, length}
 use Rattle.std.specs.declared.option.Option.{Option}
 use Rattle.frs_io.specs.Told.{Takes, TakesSome}
 use Rattle.script_lang.specs.declared.line.Line.{Line}
 use Rattle.script_lang.specs.declared.line.Line.TheVariants.{Member}
-use Rattle.dfsr.specs.Script.{IsFirstBad, IsScript, bad_line}
-use Rattle.dfsr.specs.Text.{Prints}
+use Rattle.script_lang.specs.Script.{IsFirstBad, IsScript}
+use Rattle.script_engine.specs.Text.{Prints}
 
 -- ---- causes
 
@@ -31,6 +31,10 @@ IsTooLarge bytes = (16777216 < length bytes)
     ⊎ ((lines : List Line) × (length bytes ≤ 16777216) × IsScript bytes lines × (8 < count_by makes_member lines))
 
 -- ---- what is written
+
+-- the line that names the row of this number
+abbrev pub bad_line : ℕ → List ℕ
+bad_line number = codes "bad line " ++ (decimal number ++ 10 ∷ [])
 
 -- the text of a script
 abbrev pub IsText : List ℕ → List ℕ → Type 0

@@ -1,15 +1,3 @@
-pub mod Built
-pub mod Script
-pub mod Records
-pub mod World
-pub mod Printed
-pub mod Change
-pub mod Changes
-pub mod Pulls
-pub mod Putting
-pub mod Text
 pub mod Answers
 pub mod Codes
-pub mod Names
-pub mod Standing
 pub mod Laws

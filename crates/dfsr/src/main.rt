@@ -3,17 +3,9 @@
 //! Read [`script::script_main`] first: from the bytes of a script to the bytes that it writes.
 #![tactic(auto)]
 
-pub mod built;
-pub mod change;
-pub mod engine;
 pub mod laws;
-pub mod member;
-pub mod pull;
-pub mod reading;
-pub mod records;
 pub mod script;
 pub mod status;
-pub mod text;
 
 use crate::script::script_main;
 use crate::status::Status;
@@ -32,10 +24,19 @@ usage: dfsr script < SCRIPT
 Reads a script from standard input and writes what its lines print.
 Lines, of words parted by one space:
   member M primary|plain   makes a member; M has 1 to 8 letters a to z
-  change M P T             overwrites or makes the member's own file P, and records
-                           it; P has 1 to 255 characters, T is below 2^61
+  put M P TEXT             gives the file P contents, or makes it; P is 1 to 64
+                           names parted by /, TEXT is the rest of the row
+  fill M P L               likewise with L bytes of a pattern, L below 2^32
+  mkdir M P                makes a directory
+  move M P Q               gives what is at P the place Q
+  remove M P               removes a file or an empty directory
+  consume M T              takes the next change of M's journal into its records,
+                           at the moment T, below 2^61
+  change M P T             puts nothing into P and consumes what is left, at T
   pull M N                 M takes what N covers, and what wins of it
   show M                   prints what a member covers, and its records
+  tree M                   prints a member's volume from its root
+  count M                  prints how much a member has
 Empty lines and lines that begin with # print nothing.
 
   --help, --version        print this text, or the version

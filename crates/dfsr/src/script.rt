@@ -3,15 +3,13 @@ ghost use Rattle.std.specs.Prelude.{◌≡◌, ◌⊎◌, ◌↔◌, ◌≤◌, 
 ghost use Rattle.std.specs.Io.KnownBytes.{IsAtEnd};
 ghost use Rattle.frs_io.specs.Causes.{HasWriteCause, Rose};
 ghost use Rattle.frs_io.specs.Told.{Takes, TakesSome};
-ghost use Rattle.dfsr.specs.Answers.{IsTooLarge, PrintsAll, PrintsSome, WritesAll, WritesBadLine, WritesSome, makes_member};
-ghost use Rattle.dfsr.specs.Built.{IsOwnLine};
-ghost use Rattle.dfsr.specs.Script.{bad_line};
+ghost use Rattle.script_lang.specs.Grammar.{IsLine};
+ghost use Rattle.dfsr.specs.Answers.{IsTooLarge, PrintsAll, PrintsSome, WritesAll, WritesBadLine, WritesSome, bad_line, makes_member};
 
-use crate::engine::Engine;
-use crate::reading::read_lines;
 use crate::status::Status;
 use frs_io::{ReadError, Sink, Source, WriteError, hand_on, read_to_limit, write_all};
-use script_lang::{Line, ParseError};
+use script_engine::Engine;
+use script_lang::{Line, ParseError, parse};
 use std::alloc::Global;
 
 /// The most bytes that a script has.
@@ -43,12 +41,12 @@ fn member_count(lines: &[Line]) -> usize
 
 /// Does the lines, and writes what they print in pieces.
 fn run_lines<K: Sink>(alloc: Global, lines: &[Line], out: &mut K) -> Result<(), WriteError>
-    requires { All IsOwnLine lines.now }
+    requires { All IsLine lines.now }
     ensures ok { OnOk result (PrintsAll lines.now (K.taken out.old) (K.taken out.new)) }
     ensures err { OnErr result (PrintsSome lines.now (K.taken out.old) (K.taken out.new)) }
     ensures cause { HasWriteCause (K.faults out.old) (K.faults out.new) result }
 {
-    let mut engine = Engine::new(alloc);
+    let mut engine = Engine::new();
     let mut pending = String::new(alloc);
     for line in lines {
         let text = engine.run(alloc, line)?;
@@ -116,7 +114,7 @@ pub fn script_main<S: Source, K: Sink>(
         Err(ReadError::TooLong) => return Status::TooLarge,
         Err(ReadError::Memory) => return Status::Memory,
     };
-    let lines = match read_lines(alloc, &bytes) {
+    let lines = match parse(alloc, &bytes) {
         Ok(lines) => lines,
         Err(ParseError::LineBad { number }) => match write_bad_line(alloc, number, out) {
             Ok(()) => return Status::ScriptBad,

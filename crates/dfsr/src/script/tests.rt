@@ -145,27 +145,25 @@ fn empty_rows_and_comments_are_counted(rt: HostRuntime) -> Result<(), Fail> {
 }
 
 #[test]
-fn lines_that_are_not_built(rt: HostRuntime) -> Result<(), Fail> {
-    let rows = [
-        "put a x text",
-        "put a x ",
-        "fill a x 10",
-        "mkdir a x",
-        "move a x y",
-        "remove a x",
-        "consume a 1",
-        "change a x/y 1",
-        "tree a",
-        "count a",
-    ];
-    let alloc = rt.alloc();
-    for row in rows {
-        let text = format!(in alloc; "# x\nmember a plain\n\n{row}\nfrob\n{row}\n")?;
-        expect_bad(&rt, alloc, text.as_bytes(), 4)?;
-        let text = format!(in alloc; "# x\nfrob\nmember a plain\n{row}\n")?;
-        expect_bad(&rt, alloc, text.as_bytes(), 2)?;
-    }
-    Ok(())
+fn moved_and_removed(rt: HostRuntime) -> Result<(), Fail> {
+    expect(
+        &rt,
+        rt.alloc(),
+        "member a primary\nmember b plain\nmkdir a d\nconsume a 10\nmove a d e\nremove a e\nconsume a 11\nconsume a 12\nshow a\npull b a\nshow b\n",
+        Status::Done,
+        "ok\nok\nusn 9\nupdate a:9\nusn 10\nusn 11\nskip a:10\nupdate a:11\nvector a:9..12\na:9 a:11 d gone root d 2 12 10\npulled 1\nvector a:9..12\na:9 a:11 d gone root d 2 12 10\n",
+    )
+}
+
+#[test]
+fn local_refusals(rt: HostRuntime) -> Result<(), Fail> {
+    expect(
+        &rt,
+        rt.alloc(),
+        "member a primary\nmember a plain\nput z x hi\nput a d/x hi\nput a f hi\nput a f/x hi\nmkdir a f\nmkdir a d\nmove a f d/F\nremove a d\nmove a d d/e\nfill a g 1048577\nfill a g 1048576\nconsume a 5\npull a a\n",
+        Status::Done,
+        "ok\nrefused 2 exists a\nrefused 1 unknown z\nrefused 5 nopath\nusn 9\nrefused 6 notdir\nrefused 8 taken\nusn 10\nusn 11\nrefused 7 notempty\nrefused 9 loop\nrefused 10 toolarge 1048577\nusn 12\nskip a:9\nrefused 18 self\n",
+    )
 }
 
 #[test]

@@ -3,12 +3,15 @@ use Rattle.std.specs.Prelude.{string_bytes}
 use Rattle.std.proofs.lemmas.List.{take_more}
 use Rattle.std.proofs.lemmas.Result.{on_err_weaker, on_ok_weaker}
 use Rattle.frs_io.proofs.Outcomes.{OnErr-of_fact}
-use Rattle.dfsr.proofs.Bounds.{room_within}
 use Rattle.dfsr.proofs.Writing.{all_taken, front_is_some, next_line, pending_grows, piece_cut, piece_moved, some_of_all}
 use Rattle.dfsr.proofs.script.run_lines.Goals as goal
 
+pub run-requires-clause-scene : goal.run-requires-clause-scene
+run-requires-clause-scene g c =
+    let (said, s, front, run, stands, takes, split) = c.loop-line.invariant.ran in (s, stands)
+
 pub run-requires-clause-room : goal.run-requires-clause-room
-run-requires-clause-room g c = room_within c.loop-line.line-index c.loop-line.engine (let few = c.well_formed.1.0.1 in omega (arith, few)) c.loop-line.invariant.within
+run-requires-clause-room g c = let few = c.well_formed.1.0.1 in let within = c.loop-line.invariant.within in omega (arith, few, within)
 
 pub returns-in_err-text-clause-err : goal.returns-in_err-text-clause-err
 returns-in_err-text-clause-err g c =

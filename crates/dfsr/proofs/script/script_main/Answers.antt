@@ -1,7 +1,8 @@
 use Rattle.std.proofs.Common.{inr, subst}
 use Rattle.frs_io.proofs.Told.{at_known}
 use Rattle.dfsr.specs.Answers.{WritesSome}
-use Rattle.dfsr.specs.Script.{IsFirstBad, IsRefused}
+use Rattle.script_lang.specs.Refusals.{IsRefused}
+use Rattle.script_lang.specs.Script.{IsFirstBad}
 use Rattle.dfsr.proofs.Writing.{bad_some}
 use Rattle.dfsr.proofs.script.script_main.Goals as goal
 

@@ -117,7 +117,6 @@ fn paths_outside_the_grammar(rt: HostRuntime) -> Result<(), Fail> {
     let paths = [
         "",
         long.as_str(),
-        "x/y",
         "/",
         "x\\y",
         "x y",
