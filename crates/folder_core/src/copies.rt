@@ -11,7 +11,7 @@ pub(crate) fn copy_names(alloc: Global, names: &[Name]) -> Result<List<Name>, Al
 {
     let mut copy = Vec::new(alloc);
     for name in names {
-        copy.push(name.copy(alloc)?)?;
+        copy.push(name.copy()?)?;
     }
     Ok(List::of(copy))
 }
@@ -22,7 +22,7 @@ pub(crate) fn copy_updates(alloc: Global, updates: &[Update]) -> Result<List<Upd
 {
     let mut copy = Vec::new(alloc);
     for update in updates {
-        copy.push(update.copy(alloc)?)?;
+        copy.push(update.copy()?)?;
     }
     Ok(List::of(copy))
 }

@@ -42,14 +42,14 @@ pub enum Mark {
 }
 
 impl FileMark {
-    /// The same mark in memory of its own.
-    pub fn copy(&self, alloc: Global) -> Result<FileMark, AllocError>
+    /// The same mark, which takes no memory.
+    pub fn copy(&self) -> Result<FileMark, AllocError>
         ensures { IfOk result (λ mark. mark ≡ self.now) }
     {
         Ok(match self {
             FileMark::Found { at, update } => FileMark::Found {
                 at: *at,
-                update: update.copy(alloc)?,
+                update: update.copy()?,
             },
             FileMark::NotYet { usn } => FileMark::NotYet { usn: *usn },
             FileMark::NoRecord => FileMark::NoRecord,
@@ -71,7 +71,7 @@ impl Mark {
                 vector: vector.copy(alloc)?,
                 at: *at,
             },
-            Mark::File(found) => Mark::File(found.copy(alloc)?),
+            Mark::File(found) => Mark::File(found.copy()?),
             Mark::Adopted => Mark::Adopted,
             Mark::Finished => Mark::Finished,
             Mark::Refused(why) => Mark::Refused(*why),

@@ -127,7 +127,7 @@ impl Note {
             } => Note::Adopt {
                 from: *from,
                 at: *at,
-                update: update.copy(alloc)?,
+                update: update.copy()?,
                 form: form.as_ref().map(sum_of),
             },
             Event::Finish {
@@ -161,7 +161,7 @@ impl Note {
             } => Note::Adopt {
                 from: *from,
                 at: *at,
-                update: update.copy(alloc)?,
+                update: update.copy()?,
                 form: *form,
             },
             Note::Finish {

@@ -8,27 +8,29 @@ use std::alloc::{AllocError, Global};
 use std::error::Error;
 use std::fmt;
 use std::marker::Model;
+use std::rc::RcSlice;
 
 /// The most units that a name has.
 const LONGEST: usize = 255;
 
 /// The name of a file or directory: 1 to 255 UTF-16 units, none of them 0, `/` or `\`.
 ///
-/// A contract sees its units.
+/// Copies of a name share the memory of its units. A contract sees the units.
 #[derive(Debug, Drop)]
 pub struct Name {
-    units: Vec<u16>,
+    units: RcSlice<u16>,
 }
 
 impl Model for Name {
     ghost use Rattle.std.specs.Prelude.{List, ℕ};
+    ghost use Rattle.std.specs.Rc.{rc_slice_items};
     ghost use Rattle.frs_base.specs.Names.{IsName};
 
     ghost Value = { List ℕ };
 
-    ghost view = { λ name. name.units.items };
+    ghost view = { λ name. rc_slice_items name.units };
 
-    ghost invariant = { λ name. IsName name.units.items };
+    ghost invariant = { λ name. IsName (rc_slice_items name.units) };
 }
 
 /// Why units are no name.
@@ -111,7 +113,7 @@ impl Name {
         if at < units.len() || units.is_empty() || units.len() > LONGEST {
             return Err(NameError::NameBad { at });
         }
-        let units = Vec::from_slice(alloc, units)?;
+        let units = RcSlice::from_slice(alloc, units)?;
         Ok(Name { units })
     }
 
@@ -131,11 +133,12 @@ impl Name {
         units_match(self.units(), other.units())
     }
 
-    /// The same name in memory of its own.
-    pub fn copy(&self, alloc: Global) -> Result<Name, AllocError>
+    /// The same name, which takes no memory. It is refused only where more copies share the units
+    /// than can be counted.
+    pub fn copy(&self) -> Result<Name, AllocError>
         ensures { IfOk result (λ name. name ≡ self.now) }
     {
-        let units = Vec::from_slice(alloc, self.units())?;
+        let units = self.units.clone()?;
         Ok(Name { units })
     }
 }

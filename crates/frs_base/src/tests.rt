@@ -120,7 +120,7 @@ fn names_match_without_case(rt: HostRuntime) -> Result<(), Fail> {
 #[test]
 fn a_copied_name_is_equal(rt: HostRuntime) -> Result<(), Fail> {
     let name = name_of(rt.alloc(), "Name")?;
-    assert!(rt; name.copy(rt.alloc())? == name);
+    assert!(rt; name.copy()? == name);
     assert!(rt; name_of(rt.alloc(), "name")? != name);
     Ok(())
 }

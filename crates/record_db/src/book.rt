@@ -120,9 +120,10 @@ impl Book {
         ensures rows { IfOk result (λ rows. rows.items ≡ self.now.state.records) }
         ensures book { IsBook self.now.state }
     {
-        let mut rows = Vec::new(alloc);
-        for record in self.records.as_slice() {
-            rows.push(record.copy(alloc)?)?;
+        let records = self.records.as_slice();
+        let mut rows = Vec::with_capacity(alloc, records.len())?;
+        for record in records {
+            rows.push(record.copy()?)?;
         }
         Ok(rows)
     }

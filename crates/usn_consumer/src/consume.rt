@@ -5,7 +5,6 @@ ghost use Rattle.usn_consumer.specs.Next.{HasClock, IsNext, IsSkewed, have_clock
 use crate::made::{Mark, base_fence, recorded_of};
 use crate::{ConsumeError, Consumed};
 use record_db::Book;
-use std::alloc::Global;
 use vol_state::Volume;
 
 /// The first number that no clock may be.
@@ -13,7 +12,6 @@ const CLOCK_END: u64 = 0x4000_0000_0000_0000;
 
 /// What consuming the next journal record of a member at a moment comes to.
 pub fn next_record(
-    alloc: Global,
     volume: &Volume,
     book: &Book,
     moment: u64,
@@ -38,7 +36,7 @@ pub fn next_record(
         moment,
     };
     let held = book.held(record.uid);
-    match recorded_of(alloc, volume, &mark, record, held)? {
+    match recorded_of(volume, &mark, record, held)? {
         None => Ok(Consumed::Skip),
         Some(update) if update.clock >= CLOCK_END => Err(ConsumeError::Skewed {
             clock: update.clock,

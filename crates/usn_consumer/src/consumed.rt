@@ -1,4 +1,7 @@
 // What consuming a journal record comes to.
+ghost use Rattle.std.specs.Prelude.{Some};
+ghost use Rattle.usn_consumer.specs.Errors.{error_text};
+
 use std::alloc::AllocError;
 use std::error::Error;
 use std::fmt;
@@ -25,6 +28,8 @@ pub enum ConsumeError {
 }
 
 impl fmt::Display for ConsumeError {
+    ghost output = { λ e. Some (error_text e) };
+
     fn fmt<W: fmt::Write>(&self, f: &mut fmt::Formatter<W>) -> fmt::Result {
         match self {
             ConsumeError::Skewed { clock } => write!(f, "a clock of {clock}"),

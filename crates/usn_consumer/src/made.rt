@@ -6,7 +6,7 @@ ghost use Rattle.vol_state.specs.Maps.{maps_of};
 ghost use Rattle.name_rules.specs.Recorded.{attributes_of, base_fence, clock_of, created_of, fence_of, hash_of, is_deletion, object_update, parent_uid, recorded_change, recorded_deletion, recorded_of, tombstone};
 
 use frs_base::{Guid, Gvsn, Kind, MemberKind, Name, Phase, Sum, Uid, content_set};
-use std::alloc::{AllocError, Global};
+use std::alloc::AllocError;
 use vol_state::{Object, VolRecord, Volume};
 use win_order::Update;
 
@@ -121,7 +121,6 @@ fn hash_of(o: &Object) -> Sum
 
 /// The object as it is now.
 fn object_update(
-    alloc: Global,
     volume: &Volume,
     mark: &Mark,
     held: Option<&Update>,
@@ -148,17 +147,17 @@ fn object_update(
             version: mark.usn,
         },
         parent: parent_uid(volume, *parent),
-        name: name.copy(alloc)?,
+        name: name.copy()?,
         flags: 0,
     })
 }
 
 /// The held record, no longer present.
-fn tombstone(alloc: Global, own: Guid, mark: &Mark, held: &Update) -> Result<Update, AllocError>
+fn tombstone(own: Guid, mark: &Mark, held: &Update) -> Result<Update, AllocError>
     requires { held.now.clock < 2 ^ 62 }
     ensures { IfOk result (λ u. u ≡ tombstone own mark.now.base mark.now.usn mark.now.moment held.now) }
 {
-    let mut update = held.copy(alloc)?;
+    let mut update = held.copy()?;
     update.present = false;
     update.name_conflict = false;
     update.fence = fence_of(mark.base, Some(held));
@@ -175,7 +174,6 @@ fn tombstone(alloc: Global, own: Guid, mark: &Mark, held: &Update) -> Result<Upd
 
 /// What a deletion makes: a tombstone of a present record that is held.
 fn recorded_deletion(
-    alloc: Global,
     own: Guid,
     mark: &Mark,
     held: Option<&Update>,
@@ -189,13 +187,12 @@ fn recorded_deletion(
     if !held.present {
         return Ok(None);
     }
-    Ok(Some(tombstone(alloc, own, mark, held)?))
+    Ok(Some(tombstone(own, mark, held)?))
 }
 
 /// What any other operation makes: the object as it is, if it is there and has no later local
 /// record.
 fn recorded_change(
-    alloc: Global,
     volume: &Volume,
     mark: &Mark,
     held: Option<&Update>,
@@ -213,12 +210,11 @@ fn recorded_change(
     let Some(place) = &o.place else {
         return Ok(None);
     };
-    Ok(Some(object_update(alloc, volume, mark, held, o, place)?))
+    Ok(Some(object_update(volume, mark, held, o, place)?))
 }
 
 /// What a journal record makes over the record of its UID that is held.
 pub(crate) fn recorded_of(
-    alloc: Global,
     volume: &Volume,
     mark: &Mark,
     entry: &VolRecord,
@@ -231,7 +227,7 @@ pub(crate) fn recorded_of(
         return Ok(None);
     }
     if is_deletion(entry) {
-        return recorded_deletion(alloc, volume.own(), mark, held);
+        return recorded_deletion(volume.own(), mark, held);
     }
-    recorded_change(alloc, volume, mark, held, volume.object_at(entry.fid))
+    recorded_change(volume, mark, held, volume.object_at(entry.fid))
 }

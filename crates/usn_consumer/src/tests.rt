@@ -214,7 +214,6 @@ fn have_clocks(records: &[Update]) -> bool
 
 /// What consuming the next record comes to, where its condition holds.
 fn answer(
-    alloc: Global,
     volume: &Volume,
     book: &Book,
     moment: u64,
@@ -226,7 +225,7 @@ fn answer(
     if usn != volume.next_usn() && volume.record_at(usn).is_none() {
         return Err("no such record")?;
     }
-    Ok(next_record(alloc, volume, book, moment))
+    Ok(next_record(volume, book, moment))
 }
 
 /// The answer of a row: what was done to the volume, then the member's kind, its phase and the USN
@@ -244,7 +243,7 @@ fn row_answer(alloc: Global, row: &str) -> Result<Result<Consumed, ConsumeError>
     let consumed = number(words.next())?;
     let held = parts.next().unwrap_or("none");
     let book = book_of(alloc, kind, finished, consumed, held)?;
-    answer(alloc, &volume, &book, number(parts.next())?)
+    answer(&volume, &book, number(parts.next())?)
 }
 
 fn try_rows(rt: &impl Abort, alloc: Global, rows: &str) -> Result<(), Fail> {

@@ -7,11 +7,11 @@ ghost use Rattle.vol_state.specs.Conditions.{is_allowed};
 use crate::paths::{home, last_name, target};
 use crate::{VolCmd, Volume};
 use frs_base::{Bytes, Name};
-use std::alloc::{AllocError, Global};
+use std::alloc::AllocError;
 
 impl Volume {
     /// The command of a put that isn't refused.
-    pub fn put(&self, alloc: Global, path: &[Name], bytes: Vec<u8>) -> Result<VolCmd, AllocError>
+    pub fn put(&self, path: &[Name], bytes: Vec<u8>) -> Result<VolCmd, AllocError>
         requires { IsOk (check self.now.state.objects (Put path.now bytes.items)) }
         ensures command { IfOk result (λ cmd. resolve self.now.state.objects (Put path.now bytes.items) ≡ Ok cmd) }
         ensures allowed { IfOk result (λ cmd. is_allowed cmd self.now.state ≡ true) }
@@ -25,7 +25,7 @@ impl Volume {
         if let Some(o) = shelf.child(at, name) {
             return Ok(VolCmd::PutOver { fid: o.fid, bytes });
         }
-        let name = name.copy(alloc)?;
+        let name = name.copy()?;
         Ok(VolCmd::PutNew {
             parent: at,
             name,
@@ -34,7 +34,7 @@ impl Volume {
     }
 
     /// The command of a mkdir that isn't refused.
-    pub fn mkdir(&self, alloc: Global, path: &[Name]) -> Result<VolCmd, AllocError>
+    pub fn mkdir(&self, path: &[Name]) -> Result<VolCmd, AllocError>
         requires { IsOk (check self.now.state.objects (Mkdir path.now)) }
         ensures command { IfOk result (λ cmd. resolve self.now.state.objects (Mkdir path.now) ≡ Ok cmd) }
         ensures allowed { IfOk result (λ cmd. is_allowed cmd self.now.state ≡ true) }
@@ -42,12 +42,12 @@ impl Volume {
         let Ok(at) = home(self.shelf(), path) else {
             unreachable!()
         };
-        let name = last_name(path).copy(alloc)?;
+        let name = last_name(path).copy()?;
         Ok(VolCmd::Mkdir { parent: at, name })
     }
 
     /// The command of a move that isn't refused.
-    pub fn move_to(&self, alloc: Global, from: &[Name], to: &[Name]) -> Result<VolCmd, AllocError>
+    pub fn move_to(&self, from: &[Name], to: &[Name]) -> Result<VolCmd, AllocError>
         requires { IsOk (check self.now.state.objects (Move from.now to.now)) }
         ensures command { IfOk result (λ cmd. resolve self.now.state.objects (Move from.now to.now) ≡ Ok cmd) }
         ensures allowed { IfOk result (λ cmd. is_allowed cmd self.now.state ≡ true) }
@@ -59,7 +59,7 @@ impl Volume {
         let Ok(at) = home(shelf, to) else {
             unreachable!()
         };
-        let name = last_name(to).copy(alloc)?;
+        let name = last_name(to).copy()?;
         Ok(VolCmd::Move {
             fid: o.fid,
             parent: at,

@@ -41,14 +41,14 @@ fn operation(alloc: Global, word: &str, from: &str, to: &str) -> Result<LocalOp,
 }
 
 /// The command of an operation, or why it is refused.
-fn command(alloc: Global, volume: &Volume, op: LocalOp) -> Result<Result<VolCmd, Refused>, Fail> {
+fn command(volume: &Volume, op: LocalOp) -> Result<Result<VolCmd, Refused>, Fail> {
     if let Err(refused) = volume.check(&op) {
         return Ok(Err(refused));
     }
     let cmd = match op {
-        LocalOp::Put { path, bytes } => volume.put(alloc, path.as_slice(), bytes.into_vec())?,
-        LocalOp::Mkdir { path } => volume.mkdir(alloc, path.as_slice())?,
-        LocalOp::Move { from, to } => volume.move_to(alloc, from.as_slice(), to.as_slice())?,
+        LocalOp::Put { path, bytes } => volume.put(path.as_slice(), bytes.into_vec())?,
+        LocalOp::Mkdir { path } => volume.mkdir(path.as_slice())?,
+        LocalOp::Move { from, to } => volume.move_to(from.as_slice(), to.as_slice())?,
         LocalOp::Remove { path } => volume.remove(path.as_slice()),
     };
     Ok(Ok(cmd))
@@ -56,7 +56,7 @@ fn command(alloc: Global, volume: &Volume, op: LocalOp) -> Result<Result<VolCmd,
 
 /// Does an operation, or says why it is refused.
 fn done(alloc: Global, volume: &mut Volume, op: LocalOp) -> Result<Option<Refused>, Fail> {
-    match command(alloc, volume, op)? {
+    match command(volume, op)? {
         Err(refused) => Ok(Some(refused)),
         Ok(cmd) => {
             let ready = volume.ready(alloc, cmd)?;

@@ -3,7 +3,7 @@ ghost use Rattle.std.specs.Prelude.{◌≡◌, ◌↔◌, IfOk, IsTrue};
 
 use crate::Key;
 use frs_base::{Guid, Gvsn, Name, Sum, Uid};
-use std::alloc::{AllocError, Global};
+use std::alloc::AllocError;
 
 /// The attribute of a directory.
 const DIRECTORY: u32 = 0x10;
@@ -70,11 +70,11 @@ impl Update {
         self.attributes & DIRECTORY == DIRECTORY
     }
 
-    /// The same update in memory of its own.
-    pub fn copy(&self, alloc: Global) -> Result<Update, AllocError>
+    /// The same update. It takes no memory, since copies of a name share their units.
+    pub fn copy(&self) -> Result<Update, AllocError>
         ensures { IfOk result (λ update. update ≡ self.now) }
     {
-        let name = self.name.copy(alloc)?;
+        let name = self.name.copy()?;
         Ok(Update {
             present: self.present,
             name_conflict: self.name_conflict,

@@ -36,7 +36,7 @@ impl Machine {
         ensures err { OnErr result (self.new ≡ self.old) }
     {
         let usn = self.book.consumed();
-        match next_record(alloc, &self.volume, &self.book, moment) {
+        match next_record(&self.volume, &self.book, moment) {
             Ok(Consumed::End) => Ok(Answer {
                 reply: Reply::Nothing,
                 mark: Mark::Nothing,

@@ -41,18 +41,18 @@ fn step_laws()
 
 impl Machine {
     /// The command of an operation that isn't refused.
-    fn command(&self, alloc: Global, operation: LocalOp) -> Result<VolCmd, AllocError>
+    fn command(&self, operation: LocalOp) -> Result<VolCmd, AllocError>
         requires { IsOk (check self.now.volume.objects operation) }
         ensures command { IfOk result (λ cmd. resolve self.now.volume.objects operation ≡ Ok cmd) }
         ensures allowed { IfOk result (λ cmd. is_allowed cmd self.now.volume ≡ true) }
     {
         match operation {
             LocalOp::Put { path, bytes } => {
-                self.volume.put(alloc, path.as_slice(), bytes.into_vec())
+                self.volume.put(path.as_slice(), bytes.into_vec())
             }
-            LocalOp::Mkdir { path } => self.volume.mkdir(alloc, path.as_slice()),
+            LocalOp::Mkdir { path } => self.volume.mkdir(path.as_slice()),
             LocalOp::Move { from, to } => {
-                self.volume.move_to(alloc, from.as_slice(), to.as_slice())
+                self.volume.move_to(from.as_slice(), to.as_slice())
             }
             LocalOp::Remove { path } => Ok(self.volume.remove(path.as_slice())),
         }
@@ -84,7 +84,7 @@ impl Machine {
             return Ok(Answer::refused(&Refusal::Local(why)));
         }
         let usn = self.volume.next_usn();
-        let cmd = self.command(alloc, operation)?;
+        let cmd = self.command(operation)?;
         path_laws();
         self.operate(alloc, cmd)?;
         Ok(Answer {

@@ -36,8 +36,8 @@ impl Machine {
                 if let Some(usn) = self.volume.pending_local(*uid, self.book.consumed()) {
                     (FileAnswer::NotYet { usn }, FileMark::NotYet { usn })
                 } else {
-                    let update = record.copy(alloc)?;
-                    let copy = record.copy(alloc)?;
+                    let update = record.copy()?;
+                    let copy = record.copy()?;
                     (
                         FileAnswer::Found { at, update },
                         FileMark::Found { at, update: copy },

@@ -22,7 +22,7 @@ fn copy_path(alloc: Global, path: &List<Name>) -> Result<List<Name>, AllocError>
 {
     let mut copy = Vec::new(alloc);
     for name in path.as_slice() {
-        copy.push(name.copy(alloc)?)?;
+        copy.push(name.copy()?)?;
     }
     Ok(List::of(copy))
 }

@@ -63,7 +63,7 @@ fn uncovered(alloc: Global, vector: &Vector, records: &[Update]) -> Result<Vec<U
     let mut page = Vec::new(alloc);
     for record in records {
         if !vector.covers(record.gvsn) {
-            page.push(record.copy(alloc)?)?;
+            page.push(record.copy()?)?;
         }
     }
     Ok(page)
@@ -222,9 +222,9 @@ impl Engine {
         for update in page {
             if self.wants(at, update) {
                 if is_file(update) {
-                    listed.push(update.copy(alloc)?)?;
+                    listed.push(update.copy()?)?;
                 } else {
-                    let update = update.copy(alloc)?;
+                    let update = update.copy()?;
                     if let Err(refusal) = self.adopt(alloc, at, from, entry, update)? {
                         return Ok(Err(refusal));
                     }

@@ -48,6 +48,29 @@ fn three_members_round_the_circle(rt: HostRuntime) -> Result<(), Fail> {
 }
 
 #[test]
+fn trees_round_the_circle(rt: HostRuntime) -> Result<(), Fail> {
+    let alloc = rt.alloc();
+    let lines = "member a primary\nmember b plain\nmember c plain\n\
+         mkdir a d\nput a d/x one\nconsume a 10\nconsume a 11\n\
+         mkdir b e\nconsume b 12\nput b e/y two\nput b z three\nconsume b 13\nconsume b 14\n\
+         remove b z\nconsume b 15\nput c w four\nconsume c 20\nmove c w v\nconsume c 21\n\
+         pull b a\npull c b\npull a c\npull b a\npull c b\npull a c\n";
+    let written = "ok\nok\nok\nusn 9\nusn 10\nupdate a:9\nupdate a:10\n\
+         usn 9\nupdate b:9\nusn 10\nusn 11\nupdate b:10\nupdate b:11\n\
+         usn 12\nupdate b:12\nusn 9\nupdate c:9\nusn 10\nupdate c:10\n\
+         pulled 2\npulled 5\npulled 4\npulled 1\npulled 0\npulled 0\n\
+         vector a:9..11 b:9..13 c:9..11\n\
+         a:9 a:9 d live root d 2 10 10\na:10 a:10 f live a:9 x 2 11 11\n\
+         b:9 b:9 d live root e 1 12 12\nb:10 b:10 f live b:9 y 1 13 13\n\
+         b:11 b:12 f gone root z 1 15 14\nc:9 c:10 f live root v 1 21 20\n";
+    for name in ["a", "b", "c"] {
+        let text = format!(in alloc; "{lines}show {name}\n")?;
+        expect(&rt, alloc, text.as_str(), Status::Done, written)?;
+    }
+    Ok(())
+}
+
+#[test]
 fn a_pull_ends_the_initial_phase(rt: HostRuntime) -> Result<(), Fail> {
     expect(
         &rt,

@@ -27,5 +27,5 @@ pub invariant_of-result : goal.invariant_of-result
 invariant_of-result c =
     let units = c.args.units.now in
     let at : c.unwrap_or-at.result ≡ first_barred units = c.unwrap_or-at.ensures ∙ ap (λ found. unwrap_or found (length units)) c.first_barred.ensures in
-    subst IsName (sym c.in_ok-units.ensures.items)
+    subst IsName (sym c.in_ok-units.ensures.ok)
     (record { some = grind (arith, nat_tests); within = omega arith; clean = clean_to_the_end units (omega (arith, at)) })
