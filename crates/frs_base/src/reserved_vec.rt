@@ -1,5 +1,6 @@
 // Values in order, with room reserved for more.
-ghost use Rattle.std.specs.Prelude.{◌≡◌, ◌<◌, ◌≤◌, ◌+◌, ◌∷◌, ◌++◌, [], OnErr, OnOk, insert, length, remove, slice_index_or, slice_set};
+ghost use Rattle.std.specs.Prelude.{◌≡◌, ◌<◌, ◌≤◌, ◌+◌, ◌∷◌, ◌++◌, [], OnErr, OnOk, Some, insert, length, remove, slice_get, slice_index_or, slice_set};
+ghost use Rattle.std.specs.Fn.{FnOnceReturnsAtMut};
 
 use std::alloc::{AllocError, Global};
 use std::marker::Model;
@@ -50,6 +51,19 @@ impl<T> ReservedVec<T> {
         match &mut self.kept {
             None => unreachable!(),
             Some(kept) => kept.push_reserved(item),
+        }
+    }
+
+    /// Changes the value at this place where it stands, and gives what the change gives.
+    pub fn change<R, F: FnOnce(&mut T) -> R>(&mut self, at: usize, by: F) -> R
+        requires within { at < length self.old.items }
+        requires callable { F.IsAlwaysCallable by }
+        ensures changed { (old new : T) × (slice_get self.old.items at ≡ Some old) × FnOnceReturnsAtMut F.FnOnce by old result new × (self.new.items ≡ slice_set self.old.items at new) }
+        ensures room { self.new.room ≡ self.old.room }
+    {
+        match &mut self.kept {
+            None => unreachable!(),
+            Some(kept) => by(&mut kept[at]),
         }
     }
 

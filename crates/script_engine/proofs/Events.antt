@@ -201,16 +201,16 @@ consumed_on at moment reply old new s early room h names a =
 -- ---- an event
 
 -- what a folder answers, its engine answers
-pub answered_by : (caller at : ℕ) (e : Event) (reply : Reply) (old new : Engine) (before after : Seen) → at < length old.folders.items → before ≡ slice_index_or old.folders.items at before
-    → new.folders.items ≡ insert (remove old.folders.items at) at after → Does caller e reply before after → IsSound after.machine → Answered at e reply old new
-answered_by caller at e reply old new before after within is items (entry, history, enters) sound = record {
+pub answered_by : (caller at : ℕ) (e : Event) (reply : Reply) (old new : Engine) (before after : Seen) → slice_get old.folders.items at ≡ Some before
+    → new.folders.items ≡ set old.folders.items at after → Does caller e reply before after → IsSound after.machine → Answered at e reply old new
+answered_by caller at e reply old new before after found items (entry, history, enters) sound = record {
   place = length before.history + 1;
   before = before.machine;
   after = after.machine;
-  found = get_map (λ (f : Seen). f.machine) old.folders.items at before (get_read old.folders.items at before within is);
+  found = get_map (λ (f : Seen). f.machine) old.folders.items at before found;
   answers = enters.answers;
   order = sound.order;
-  machines = ap (map (λ (f : Seen). f.machine)) (items ∙ put_back old.folders.items at after within) ∙ map_set (λ (f : Seen). f.machine) old.folders.items at after;
+  machines = ap (map (λ (f : Seen). f.machine)) items ∙ map_set (λ (f : Seen). f.machine) old.folders.items at after;
 }
 
 -- what holds of each answer holds of the one that came
