@@ -1,11 +1,9 @@
 -- The volume and the records go on to agree.
-use Rattle.std.proofs.Common.{◌≡◌, ◌≢◌, ◌<◌, ◌≤◌, ◌+◌, ℕ, Bool, true, false, List, Option, Some, None, refl, sym, ap, ◌∙◌, subst, inl, inr, arith}
+use Rattle.std.proofs.Common.{◌≡◌, ◌≢◌, ◌<◌, ◌≤◌, ℕ, true, List, Option, Some, None, refl, sym, ap, ◌∙◌, subst, inl, inr}
 use Rattle.std.specs.Prelude.{MatchOption, option_map}
 use Rattle.frs_base.specs.Identifiers.{content_set}
 use Rattle.frs_base.specs.Options.{In}
-use Rattle.frs_base.specs.declared.kind.Phase.TheVariants.{Normal}
 use Rattle.frs_base.specs.declared.sum.Sum.{Sum}
-use Rattle.frs_base.specs.declared.version.Gvsn.{Gvsn}
 use Rattle.frs_base.specs.declared.version.Uid.{Uid}
 use Rattle.version_vector.specs.Versions.{covers}
 use Rattle.version_vector.specs.declared.interval.Interval.{Interval}
@@ -19,9 +17,8 @@ use Rattle.vol_state.specs.Maps.{StandsOn, maps_of, write}
 use Rattle.vol_state.specs.Tables.{IsLocal}
 use Rattle.record_db.specs.declared.command.BookCmd.TheVariants as cmd
 use Rattle.record_db.specs.Lists.{put_any, put_record}
-use Rattle.record_db.specs.Records.{both, plus}
 use Rattle.record_db.specs.State.{BookState, IsBook}
-use Rattle.record_db.specs.Steps.{Changes, in_set, own_version}
+use Rattle.record_db.specs.Steps.{Changes, in_set}
 use Rattle.name_rules.specs.Recorded.{base_fence, held_of, is_deletion, made_of, recorded_of}
 use Rattle.name_rules.proofs.Cases.{made_by}
 use Rattle.world_model.specs.Events.{adopted_by, consumed_by, finished_by, operated}

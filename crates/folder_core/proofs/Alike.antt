@@ -1,6 +1,5 @@
 -- Functions that are equal at each argument are one.
-use Rattle.std.proofs.Common.{◌≡◌, List, ap, ◌∙◌, sym}
-use Rattle.frs_base.specs.declared.version.Gvsn.{Gvsn}
+use Rattle.std.proofs.Common.{◌≡◌, List}
 use Rattle.version_vector.specs.declared.interval.Interval.{Interval}
 use Rattle.version_vector.specs.Versions.{covers}
 use Rattle.vol_state.specs.State.{State}

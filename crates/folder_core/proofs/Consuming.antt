@@ -1,15 +1,12 @@
 -- Commands on the book that may be taken, and what they answer.
-use Rattle.std.proofs.Common.{◌≡◌, ◌≢◌, ◌<◌, ◌≤◌, ◌-◌, ◌^◌, ◌&&◌, ◌⊎◌, ℕ, Bool, true, false, cond, eqb, leb, ltb, List, [], ◌∷◌, Option, Some, None, Result, Ok, Err, refl, sym, ap, ◌∙◌, subst, inl, inr, arith}
-use Rattle.std.specs.Prelude.{IfOk, MatchBool, MatchOption, IsSome}
+use Rattle.std.proofs.Common.{◌≡◌, ◌<◌, ◌≤◌, ◌-◌, ◌^◌, ◌&&◌, ℕ, Bool, true, false, cond, eqb, leb, ltb, Option, Some, None, Result, Ok, Err, refl, sym, ap, ◌∙◌, subst, inl, inr, arith}
+use Rattle.std.specs.Prelude.{IfOk, MatchBool, IsSome}
 use Rattle.std.proofs.lemmas.Bool.Decides.{nat_tests}
-use Rattle.frs_base.specs.Options.{In}
 use Rattle.frs_base.specs.Versions.{same_gvsn}
 use Rattle.frs_base.specs.declared.version.Gvsn.{Gvsn}
 use Rattle.version_vector.specs.Versions.{covers}
-use Rattle.version_vector.specs.declared.interval.Interval.{Interval}
 use Rattle.win_order.specs.declared.update.Update.{Update}
 use Rattle.vol_state.specs.Journal.{record_at}
-use Rattle.vol_state.specs.State.{State}
 use Rattle.vol_state.specs.Maps.{maps_of}
 use Rattle.record_db.specs.declared.command.BookCmd.TheVariants as cmd
 use Rattle.record_db.specs.Records.{plus}
@@ -19,7 +16,7 @@ use Rattle.record_db.proofs.Keys.{same_gvsn_refl}
 use Rattle.record_db.proofs.Sets.{plus_new}
 use Rattle.name_rules.specs.Recorded.{base_fence, held_of, made_of, recorded_of}
 use Rattle.name_rules.proofs.Cases.{made_version}
-use Rattle.usn_consumer.specs.Next.{HasClock, IsNext, IsSkewed, have_clocks, making, next_of}
+use Rattle.usn_consumer.specs.Next.{HasClock, IsNext, have_clocks, making, next_of}
 use Rattle.usn_consumer.specs.declared.consumed.Consumed.{Consumed}
 use Rattle.usn_consumer.specs.declared.consumed.Consumed.TheVariants.{End, Make, Skip}
 use Rattle.usn_consumer.proofs.Clocks.{clocks_of_each}
@@ -34,7 +31,6 @@ use Rattle.folder_core.specs.Consume.{AnswersConsume, AnswersMade, AnswersRecord
 use Rattle.folder_core.specs.Adopt.{adopt_refusal}
 use Rattle.folder_core.specs.Given.{MayTake}
 use Rattle.folder_core.specs.Sound.{IsSound}
-use Rattle.folder_core.proofs.Bounds.{HasClock as IsClocked}
 use Rattle.folder_core.proofs.Fitting.{is_clear, is_fit}
 use Rattle.folder_core.proofs.Held.{each_of, record_there}
 use Rattle.folder_core.proofs.Sounding.{adopted_sound, recorded_sound}

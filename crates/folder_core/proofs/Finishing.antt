@@ -1,5 +1,5 @@
 -- The least own version of a vector that isn't consumed.
-use Rattle.std.proofs.Common.{◌≡◌, ◌≢◌, ◌<◌, ◌≤◌, ℕ, max, Bool, true, false, cond, eqb, leb, ltb, ◌&&◌, ◌||◌, ◌⊎◌, List, [], ◌∷◌, Option, Some, None, refl, sym, ap, ◌∙◌, subst, inl, inr, arith}
+use Rattle.std.proofs.Common.{◌≡◌, ◌<◌, ◌≤◌, ℕ, max, Bool, true, false, cond, eqb, leb, ltb, ◌&&◌, ◌||◌, ◌⊎◌, List, [], ◌∷◌, Some, None, refl, sym, ap, ◌∙◌, subst, inl, inr, arith}
 use Rattle.std.specs.Prelude.{find}
 use Rattle.std.specs.Cmp.Lexicographic.{pointwise}
 use Rattle.std.proofs.lemmas.Bool.Decides.{nat_tests}
@@ -8,7 +8,7 @@ use Rattle.version_vector.specs.Versions.{IsCanonical, covers, inside, is_before
 use Rattle.version_vector.specs.declared.interval.Interval.{Interval}
 use Rattle.record_db.specs.declared.command.BookCmd.TheVariants as cmd
 use Rattle.folder_core.specs.Machine.{Machine}
-use Rattle.folder_core.specs.Finish.{HasAhead, HasNoneAhead, IsLeastAhead, is_past}
+use Rattle.folder_core.specs.Finish.{HasNoneAhead, IsLeastAhead, is_past}
 use Rattle.folder_core.specs.Given.{StaysSound}
 use Rattle.folder_core.specs.Sound.{IsSound}
 use Rattle.folder_core.proofs.Sounding.{finished_sound}

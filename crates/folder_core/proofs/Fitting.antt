@@ -1,6 +1,6 @@
 -- An update that isn't refused is fit to be taken.
-use Rattle.std.proofs.Common.{◌≡◌, ◌≢◌, ◌<◌, ◌≤◌, ◌-◌, ◌^◌, ◌⊎◌, ℕ, Bool, true, false, not, cond, eqb, leb, ltb, ◌&&◌, ◌||◌, List, [], ◌∷◌, Option, Some, None, refl, sym, ap, ◌∙◌, subst, inl, inr, arith}
-use Rattle.std.specs.Prelude.{bit_and, find, option_map}
+use Rattle.std.proofs.Common.{◌≡◌, ◌≢◌, ◌<◌, ◌-◌, ◌^◌, ℕ, Bool, true, false, not, cond, eqb, ◌&&◌, List, [], ◌∷◌, Option, Some, None, refl, sym, ap, ◌∙◌, subst, inl, inr, arith}
+use Rattle.std.specs.Prelude.{find, option_map}
 use Rattle.std.proofs.lemmas.Bool.Decides.{nat_tests}
 use Rattle.frs_base.specs.Identifiers.{content_set}
 use Rattle.frs_base.specs.Options.{In, kept_if}
@@ -10,9 +10,7 @@ use Rattle.frs_base.specs.declared.kind.Kind.TheVariants as kind
 use Rattle.frs_base.specs.declared.sum.Sum.{Sum}
 use Rattle.frs_base.specs.declared.version.Uid.{Uid}
 use Rattle.version_vector.specs.Versions.{covers}
-use Rattle.win_order.specs.Order.{key_lt, key_of}
 use Rattle.win_order.specs.Refusals.{has_no_version, is_compressed, is_of_root, is_skewed, unfit_of}
-use Rattle.win_order.specs.declared.unfit.Unfit.{Unfit}
 use Rattle.win_order.specs.declared.unfit.Unfit.TheVariants as reason
 use Rattle.win_order.specs.declared.update.Update.{Update}
 use Rattle.vol_state.specs.declared.object.Object.{Object}
@@ -27,8 +25,7 @@ use Rattle.record_db.proofs.Lists.{find_at}
 use Rattle.name_rules.specs.Recorded.{held_of}
 use Rattle.name_rules.specs.Tree.{kind_of}
 use Rattle.world_model.specs.Folder.{IsFit, IsFound}
-use Rattle.folder_core.specs.declared.refusal.Refusal.{Refusal}
-use Rattle.folder_core.specs.declared.refusal.Refusal.TheVariants.{Beaten, Doubled, KindDiffers, OwnAhead, Unfit as IsUnfit}
+use Rattle.folder_core.specs.declared.refusal.Refusal.TheVariants.{Doubled, KindDiffers, OwnAhead, Unfit as IsUnfit}
 use Rattle.folder_core.specs.Machine.{Machine, is_ahead}
 use Rattle.folder_core.specs.Adopt.{adopt_refusal, beaten, doubled, first_of, kind_at, kind_differs, own_ahead, same_kind, unfit}
 use Rattle.folder_core.specs.Sound.{IsInOrder, member_of}

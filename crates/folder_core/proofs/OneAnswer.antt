@@ -1,5 +1,5 @@
 -- An event has one answer, and leads to one machine.
-use Rattle.std.proofs.Common.{◌≡◌, ◌≢◌, ◌<◌, ◌≤◌, ◌+◌, ◌||◌, ◌⊎◌, ℕ, Bool, true, false, ltb, List, [], ◌∷◌, length, Option, Some, None, Result, Ok, Err, refl, sym, ap, ◌∙◌, subst, inl, inr, arith}
+use Rattle.std.proofs.Common.{◌≡◌, ◌<◌, ◌+◌, ◌||◌, ℕ, Bool, true, false, ltb, List, [], ◌∷◌, Option, Some, None, Result, Ok, Err, refl, sym, ap, ◌∙◌, subst, inl, inr, arith}
 use Rattle.std.specs.Prelude.{MatchBool, MatchOption, MatchResult}
 use Rattle.std.proofs.lemmas.Bool.Decides.{nat_tests}
 use Rattle.frs_base.specs.declared.version.Gvsn.{Gvsn}
@@ -9,7 +9,6 @@ use Rattle.version_vector.specs.Unions.{inserted}
 use Rattle.version_vector.specs.Versions.{IsCanonical, covers, inside}
 use Rattle.version_vector.specs.declared.errors.VectorError.TheVariants as vector
 use Rattle.version_vector.specs.declared.interval.Interval.{Interval}
-use Rattle.version_vector.proofs.Canonical.{or_assoc}
 use Rattle.version_vector.proofs.Insertions.{adds_version, covers-inserted, inserted_form}
 use Rattle.version_vector.proofs.Uniqueness.{unique}
 use Rattle.win_order.specs.declared.update.Update.{Update}
@@ -21,20 +20,17 @@ use Rattle.record_db.specs.declared.command.BookCmd.TheVariants as cmd
 use Rattle.record_db.specs.State.{BookState, IsVector}
 use Rattle.record_db.specs.Steps.{Changes, covered_after, own_version}
 use Rattle.record_db.specs.Records.{Versions}
-use Rattle.folder_core.specs.declared.event.Event.{Event}
 use Rattle.folder_core.specs.declared.event.Event.TheVariants as event
 use Rattle.folder_core.specs.declared.refusal.Refusal.{Refusal}
 use Rattle.folder_core.specs.declared.refusal.Refusal.TheVariants as why
 use Rattle.folder_core.specs.declared.reply.Reply.{Reply}
 use Rattle.folder_core.specs.declared.reply.Reply.TheVariants as reply
 use Rattle.folder_core.specs.Machine.{Machine, Refuses}
-use Rattle.folder_core.specs.Books.{Changed, IsFull, Takes}
+use Rattle.folder_core.specs.Books.{Changed, Takes}
 use Rattle.folder_core.specs.Local.{Operates}
 use Rattle.folder_core.specs.Consume.{AnswersRecord, is_at_end, made_at}
 use Rattle.folder_core.specs.Adopt.{adopt_refusal}
-use Rattle.folder_core.specs.Finish.{HasAhead, HasNoneAhead, IsLeastAhead, first_unheld}
-use Rattle.folder_core.specs.Answers.{Answers}
-use Rattle.folder_core.specs.Sound.{IsSound}
+use Rattle.folder_core.specs.Finish.{IsLeastAhead, first_unheld}
 use Rattle.folder_core.specs.Laws.{AnswersAreOne, Runs, RunsAreOne}
 
 -- two answers and what they lead to are one

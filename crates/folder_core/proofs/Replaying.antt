@@ -1,13 +1,9 @@
 -- Histories that grow.
-use Rattle.std.proofs.Common.{◌≡◌, ◌≢◌, ◌<◌, ◌≤◌, ◌+◌, ℕ, Bool, true, false, List, [], ◌∷◌, ◌++◌, length, Option, Some, None, Result, Ok, Err, refl, sym, ap, ◌∙◌, subst, inl, inr, arith, length-append}
+use Rattle.std.proofs.Common.{◌≡◌, ◌≢◌, ◌≤◌, ◌+◌, ℕ, Bool, true, false, List, [], ◌∷◌, ◌++◌, length, Option, Some, None, Result, Ok, Err, refl, sym, ap, ◌∙◌, subst, inl, inr, arith, length-append}
 use Rattle.std.specs.Prelude.{if◌then◌else◌, MatchBool, MatchOption, MatchResult}
-use Rattle.std.specs.List.{AllByRecursion}
-use Rattle.frs_base.specs.declared.kind.MemberKind.{MemberKind}
-use Rattle.version_vector.specs.declared.interval.Interval.{Interval}
 use Rattle.win_order.specs.declared.update.Update.{Update}
 use Rattle.vol_state.specs.declared.command.VolCmd.{VolCmd}
 use Rattle.vol_state.specs.declared.operation.Refused.{Refused}
-use Rattle.vol_state.specs.Effects.{effect}
 use Rattle.vol_state.specs.Paths.{resolve}
 use Rattle.record_db.specs.declared.command.BookCmd.{BookCmd}
 use Rattle.folder_core.specs.declared.answer.Answer.{Answer}
@@ -24,12 +20,12 @@ use Rattle.folder_core.specs.Machine.{Machine, Refuses, fresh_machine}
 use Rattle.folder_core.specs.Notes.{mark_of, note_of}
 use Rattle.folder_core.specs.Books.{Takes}
 use Rattle.folder_core.specs.Local.{Operates}
-use Rattle.folder_core.specs.Consume.{AnswersMade, AnswersRecord, is_at_end, made_at}
+use Rattle.folder_core.specs.Consume.{AnswersRecord, is_at_end, made_at}
 use Rattle.folder_core.specs.Adopt.{adopt_refusal}
 use Rattle.folder_core.specs.Finish.{first_unheld}
 use Rattle.folder_core.specs.Answers.{Answers}
 use Rattle.folder_core.specs.Given.{IsNoted}
-use Rattle.folder_core.specs.Replay.{AreEarly, Does, Enters, IsEarly, IsFolder, IsGeneration, IsReplay, Leads, Replays, Seen, Stand, stand_of}
+use Rattle.folder_core.specs.Replay.{AreEarly, Does, Enters, IsEarly, IsFolder, IsGeneration, Leads, Replays, Seen, Stand, stand_of}
 use Rattle.folder_core.proofs.Volumes.{one_usn}
 
 -- ---- what no event changes

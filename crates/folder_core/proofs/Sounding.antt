@@ -1,5 +1,5 @@
 -- A machine stays sound, whatever its partners send.
-use Rattle.std.proofs.Common.{◌≡◌, ◌≢◌, ◌<◌, ◌≤◌, ◌+◌, ◌-◌, ◌^◌, ℕ, true, List, Option, refl, sym, ap, ◌∙◌, subst, arith}
+use Rattle.std.proofs.Common.{◌≡◌, ◌<◌, ◌≤◌, ◌-◌, ◌^◌, ℕ, true, List, Option, refl, sym, ◌∙◌, subst, arith}
 use Rattle.frs_base.specs.Identifiers.{content_set}
 use Rattle.frs_base.specs.declared.kind.MemberKind.{MemberKind}
 use Rattle.frs_base.specs.declared.sum.Sum.{Sum}
@@ -21,11 +21,11 @@ use Rattle.record_db.specs.declared.command.BookCmd.{BookCmd}
 use Rattle.record_db.specs.declared.command.BookCmd.TheVariants as cmd
 use Rattle.record_db.specs.State.{BookState, IsBook, fresh_book}
 use Rattle.record_db.specs.Steps.{Changes, consumed_after}
-use Rattle.world_model.specs.Folder.{IsFit, IsFitVector}
+use Rattle.world_model.specs.Folder.{IsFit}
 use Rattle.world_model.proofs.Folder.{folders_begin}
 use Rattle.folder_core.specs.Machine.{Machine, fresh_machine}
 use Rattle.folder_core.specs.Consume.{made_at}
-use Rattle.folder_core.specs.Sound.{Agrees, IsInBounds, IsInOrder, IsSound, member_of}
+use Rattle.folder_core.specs.Sound.{IsInOrder, IsSound, member_of}
 use Rattle.folder_core.proofs.Volumes.{free_fresh, has_all, in_time, one_fid, one_usn, same_own, step_is}
 use Rattle.folder_core.proofs.Bounds.{HasClock, bounds_adopted, bounds_finished, bounds_recorded}
 use Rattle.folder_core.proofs.Agreeing.{agrees_adopted, agrees_finished, agrees_operated, agrees_recorded}

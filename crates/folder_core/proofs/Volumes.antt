@@ -1,5 +1,5 @@
 -- What a local operation does to a volume.
-use Rattle.std.proofs.Common.{◌≡◌, ◌<◌, ◌≤◌, ◌+◌, ◌-◌, ◌^◌, ℕ, Bool, true, false, cond, refl, sym, ap, subst, arith, ◌&&◌}
+use Rattle.std.proofs.Common.{◌≡◌, ◌<◌, ◌≤◌, ◌+◌, ◌-◌, ◌^◌, ℕ, Bool, true, false, cond, refl, arith, ◌&&◌}
 use Rattle.std.proofs.lemmas.Bool.Decides.{nat_tests}
 use Rattle.vol_state.specs.declared.command.VolCmd.{VolCmd}
 use Rattle.vol_state.specs.declared.command.VolCmd.TheVariants.{PutNew, PutOver, Mkdir, Move, Remove, Park, Erase, Make, Rewrite, Place}
@@ -8,7 +8,7 @@ use Rattle.vol_state.specs.Seen.{fresh_state}
 use Rattle.vol_state.specs.Numbers.{greatest_fid, greatest_usn, has_numbers}
 use Rattle.vol_state.specs.Conditions.{is_allowed, step}
 use Rattle.vol_state.specs.Effects.{effect}
-use Rattle.vol_state.specs.Maps.{Maps, write}
+use Rattle.vol_state.specs.Maps.{Maps}
 use Rattle.vol_state.specs.Tables.{IsLocal}
 use Rattle.vol_state.specs.Laws.{AreFree, IsInTime}
 

@@ -1,5 +1,5 @@
 -- A partner's update is taken.
-use Rattle.std.specs.Prelude.{◌||◌, not, Bool, true, false, if◌then◌else◌, MatchOption, List, [], ◌∷◌, Option, Some, None, option_map}
+use Rattle.std.specs.Prelude.{not, Bool, true, false, if◌then◌else◌, MatchOption, List, [], ◌∷◌, Option, Some, None, option_map}
 use Rattle.frs_base.specs.Options.{kept_if}
 use Rattle.frs_base.specs.declared.kind.Kind.{Kind}
 use Rattle.frs_base.specs.declared.kind.Kind.TheVariants as kind

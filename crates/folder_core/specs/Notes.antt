@@ -1,5 +1,5 @@
 -- Events and replies as a history keeps them: contents are known by their sum alone, and what was pinned by its vector.
-use Rattle.std.specs.Prelude.{ℕ, List, Option, option_map}
+use Rattle.std.specs.Prelude.{ℕ, List, option_map}
 use Rattle.frs_base.specs.declared.kind.Kind.TheVariants as kind
 use Rattle.frs_base.specs.declared.sum.Sum.{Sum}
 use Rattle.vol_state.specs.declared.operation.LocalOp.{LocalOp}

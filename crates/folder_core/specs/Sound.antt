@@ -1,5 +1,5 @@
 -- What is true of every member's machine, whatever its partners send.
-use Rattle.std.specs.Prelude.{◌≡◌, ◌<◌, ◌≤◌, ◌^◌, ℕ, true, Option}
+use Rattle.std.specs.Prelude.{◌≡◌, ◌<◌, ◌≤◌, ◌^◌, true, Option}
 use Rattle.std.specs.List.{AllByRecursion}
 use Rattle.frs_base.specs.Identifiers.{content_set}
 use Rattle.frs_base.specs.declared.sum.Sum.{Sum}

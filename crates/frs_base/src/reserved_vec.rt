@@ -1,5 +1,6 @@
 // Values in order, with room reserved for more.
-ghost use Rattle.std.specs.Prelude.{◌≡◌, ◌<◌, ◌≤◌, ◌+◌, ◌∷◌, ◌++◌, [], OnErr, OnOk, insert, length, remove, slice_index_or, slice_set};
+ghost use Rattle.std.specs.Prelude.{◌≡◌, ◌<◌, ◌≤◌, ◌+◌, ◌∷◌, ◌++◌, [], OnErr, OnOk, Some, insert, length, slice_get, slice_set};
+ghost use Rattle.std.specs.Fn.{FnOnceReturnsAtMut};
 
 use std::alloc::{AllocError, Global};
 use std::marker::Model;
@@ -53,16 +54,16 @@ impl<T> ReservedVec<T> {
         }
     }
 
-    /// Takes the value at this place out; those behind it move up.
-    pub fn remove(&mut self, at: usize) -> T
-        requires { at < length self.old.items }
-        ensures value { result ≡ slice_index_or self.old.items at result }
-        ensures items { self.new.items ≡ remove self.old.items at }
-        ensures room { self.new.room ≡ self.old.room + 1 }
+    /// Changes the value at this place where it stands, and gives what the change gives.
+    pub fn change<R, F: FnOnce(&mut T) -> R>(&mut self, at: usize, by: F) -> R
+        requires within { at < length self.old.items }
+        requires callable { F.IsAlwaysCallable by }
+        ensures changed { (old new : T) × (slice_get self.old.items at ≡ Some old) × FnOnceReturnsAtMut F.FnOnce by old result new × (self.new.items ≡ slice_set self.old.items at new) }
+        ensures room { self.new.room ≡ self.old.room }
     {
         match &mut self.kept {
             None => unreachable!(),
-            Some(kept) => kept.remove(at),
+            Some(kept) => by(&mut kept[at]),
         }
     }
 }

@@ -149,7 +149,7 @@ fn reserved_values_stay_in_order(rt: HostRuntime) -> Result<(), Fail> {
     values.insert(1, 6);
     assert_eq!(rt; values.as_slice(), [5, 6, 7].as_slice());
     values.set(2, 8);
-    assert_eq!(rt; values.remove(0), 5);
-    assert_eq!(rt; values.as_slice(), [6, 8].as_slice());
+    assert_eq!(rt; values.change(0, |value| std::mem::replace(value, 9)), 5);
+    assert_eq!(rt; values.as_slice(), [9, 6, 8].as_slice());
     Ok(())
 }

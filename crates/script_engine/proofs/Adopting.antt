@@ -1,5 +1,5 @@
 -- An update that is adopted at a member's machine is adopted at the member.
-use Rattle.std.proofs.Common.{◌≡◌, ◌≢◌, ◌<◌, ◌≤◌, ◌+◌, ◌-◌, ◌^◌, ◌⊎◌, ◌&&◌, ◌||◌, ℕ, zero, suc, Bool, true, false, not, cond, eqb, ltb, leb, List, [], ◌∷◌, ◌++◌, length, refl, sym, ap, ◌∙◌, subst, arith, inl, inr, MatchOption, Option, Some, None}
+use Rattle.std.proofs.Common.{◌≡◌, ◌≢◌, ◌<◌, ◌≤◌, ◌^◌, ◌⊎◌, ℕ, Bool, true, false, not, cond, eqb, List, [], ◌∷◌, length, refl, sym, ap, ◌∙◌, subst, arith, inl, inr, MatchOption, Option, Some, None}
 use Rattle.std.specs.Prelude.{bit_and, find, option_map}
 use Rattle.std.proofs.lemmas.Bool.Decides.{nat_tests}
 use Rattle.frs_base.specs.Identifiers.{content_set}
@@ -7,8 +7,6 @@ use Rattle.frs_base.specs.Options.{In, kept_if}
 use Rattle.frs_base.specs.Versions.{same_uid}
 use Rattle.frs_base.specs.declared.kind.Kind.{Kind}
 use Rattle.frs_base.specs.declared.kind.Kind.TheVariants.{Directory, File}
-use Rattle.frs_base.specs.declared.version.Gvsn.{Gvsn}
-use Rattle.frs_base.specs.declared.version.Uid.{Uid}
 use Rattle.version_vector.specs.Versions.{covers}
 use Rattle.win_order.specs.Order.{Beats, key_lt, key_of}
 use Rattle.win_order.specs.Refusals.{has_no_version, is_compressed, is_of_root, is_skewed, unfit_of}
@@ -19,36 +17,34 @@ use Rattle.vol_state.specs.Conditions.{root_uid}
 use Rattle.vol_state.specs.Maps.{Stands}
 use Rattle.vol_state.specs.Places.{object_at}
 use Rattle.vol_state.specs.State.{State, object_of, uid_of}
-use Rattle.vol_state.specs.Tables.{IsAt}
 use Rattle.vol_state.proofs.Finding.{in_at}
 use Rattle.record_db.specs.declared.command.BookCmd.TheVariants as cmd
-use Rattle.record_db.specs.Records.{Covered, IsBetter, IsHeld, plus}
-use Rattle.record_db.specs.Steps.{Changes, IsStep, has_next}
+use Rattle.record_db.specs.Records.{Covered, plus}
+use Rattle.record_db.specs.Steps.{IsStep, has_next}
 use Rattle.record_db.proofs.Best.{one_held}
 use Rattle.record_db.proofs.Keys.{same_uid_is}
 use Rattle.record_db.proofs.Lists.{find_in, found_held}
 use Rattle.record_db.proofs.Standing.{adopts_on}
 use Rattle.name_rules.specs.Recorded.{held_of}
 use Rattle.name_rules.specs.Tree.{kind_of}
-use Rattle.world_model.specs.World.{Member, World, IsRecordOf, with_member}
+use Rattle.world_model.specs.World.{World, with_member}
 use Rattle.world_model.specs.Events.{Step, Adopt, WasSent, adopted_by}
 use Rattle.world_model.specs.Laws.{IsFitToAdopt}
 use Rattle.world_model.specs.Rounds.{IsWanted}
 use Rattle.world_model.proofs.Changing.{at_same}
 use Rattle.world_model.proofs.Flight.{adoptions_fit}
-use Rattle.folder_core.specs.declared.refusal.Refusal.{Refusal}
 use Rattle.folder_core.specs.declared.refusal.Refusal.TheVariants.{Beaten, Doubled, KindDiffers, OwnAhead, Unfit, VectorFull}
 use Rattle.folder_core.specs.declared.reply.Reply.{Reply}
 use Rattle.folder_core.specs.declared.reply.Reply.TheVariants.{Adopted, Refused}
 use Rattle.folder_core.specs.Machine.{Machine, Refuses, is_ahead}
 use Rattle.folder_core.specs.Adopt.{AnswersAdopt, adopt_refusal, beaten, doubled, first_of, kind_at, kind_differs, own_ahead, same_kind, unfit}
-use Rattle.folder_core.specs.Books.{Changed, IsFull, Takes}
+use Rattle.folder_core.specs.Books.{Changed, Takes}
 use Rattle.folder_core.specs.Sound.{IsInOrder}
 use Rattle.script_engine.specs.Sound.{IsSoundWorld}
-use Rattle.script_engine.specs.Standing.{AreOurs, MachineStands}
+use Rattle.script_engine.specs.Standing.{MachineStands}
 use Rattle.script_engine.specs.Widening.{Exceeds, Fits}
 use Rattle.script_engine.proofs.Advancing.{Goes, beside_same}
-use Rattle.script_engine.proofs.Passing.{Passes, passes_adopt}
+use Rattle.script_engine.proofs.Passing.{passes_adopt}
 use Rattle.script_engine.proofs.Vectors.{vector_plus}
 use Rattle.script_engine.proofs.Widths.{covered_is, exceeds_by, fits_by}
 

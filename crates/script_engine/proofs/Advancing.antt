@@ -1,6 +1,6 @@
 -- What an event at one member makes of its machine and of the world.
-use Rattle.std.proofs.Common.{◌≡◌, ◌≢◌, ◌<◌, ◌≤◌, ◌+◌, ◌-◌, ℕ, true, false, List, ◌∷◌, [], ◌++◌, length, set, refl, sym, ap, ◌∙◌, subst, arith, Some}
-use Rattle.std.specs.Prelude.{slice_get, sum_by}
+use Rattle.std.proofs.Common.{◌≡◌, ◌≢◌, ◌<◌, ◌≤◌, ◌+◌, ℕ, false, List, ◌++◌, length, set, sym, ◌∙◌, subst, arith, Some}
+use Rattle.std.specs.Prelude.{slice_get}
 use Rattle.std.proofs.lemmas.List.{length-set}
 use Rattle.std.proofs.lemmas.Option.{slice_get_within}
 use Rattle.frs_base.specs.Identifiers.{database_of}
@@ -8,12 +8,11 @@ use Rattle.frs_base.specs.Options.{In}
 use Rattle.win_order.specs.declared.update.Update.{Update}
 use Rattle.record_db.proofs.Standing.{stays_standing}
 use Rattle.world_model.specs.World.{Member, World}
-use Rattle.world_model.specs.Invariant.{Invariant}
 use Rattle.folder_core.specs.Machine.{Machine}
 use Rattle.script_engine.specs.Scene.{Scene, in_world}
-use Rattle.script_engine.specs.Sound.{IsNobodys, IsSoundScene, IsSoundWorld}
-use Rattle.script_engine.specs.Standing.{AreOurs, HaveRoom, MachineStands, MachinesStand, consumed_in, made_in}
-use Rattle.script_engine.proofs.Pairs.{get_set_cases, in_sum, sum_less, sum_set}
+use Rattle.script_engine.specs.Sound.{IsSoundScene}
+use Rattle.script_engine.specs.Standing.{AreOurs, MachineStands, MachinesStand, consumed_in}
+use Rattle.script_engine.proofs.Pairs.{get_set_cases, sum_set}
 use Rattle.script_engine.proofs.Passing.{Passes}
 
 -- the member of the database went on, and its machine with it; all others stay

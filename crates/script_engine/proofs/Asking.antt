@@ -1,13 +1,12 @@
 -- The page that a pull asks for.
-use Rattle.std.proofs.Common.{◌≡◌, ◌<◌, ◌≤◌, ◌+◌, ℕ, zero, suc, Bool, true, false, not, cond, List, [], ◌∷◌, length, get_or, refl, sym, ap, ◌∙◌, subst, arith, inl, inr, ◌⊎◌}
+use Rattle.std.proofs.Common.{◌≡◌, ◌+◌, ℕ, suc, Bool, true, false, not, cond, List, [], ◌∷◌, get_or, refl, sym, ap, ◌∙◌, subst, arith, inl, inr, ◌⊎◌}
 use Rattle.std.specs.Prelude.{filter}
-use Rattle.std.specs.List.{AllByRecursion, IsDistinct}
+use Rattle.std.specs.List.{IsDistinct}
 use Rattle.std.specs.List.Sorted.{IsPermutation, IsSortedBy}
 use Rattle.std.proofs.lemmas.List.Sorted.{Contains-permutation, IsPermutation-sym, sorted_far}
 use Rattle.std.proofs.lemmas.Map.Keys.{IsDistinct-IsPermutation}
 use Rattle.frs_base.specs.Options.{In}
 use Rattle.frs_base.specs.Versions.{gvsn_lt, same_gvsn}
-use Rattle.frs_base.specs.declared.version.Gvsn.{Gvsn}
 use Rattle.version_vector.specs.Versions.{covers}
 use Rattle.version_vector.specs.declared.interval.Interval.{Interval}
 use Rattle.win_order.specs.declared.update.Update.{Update}

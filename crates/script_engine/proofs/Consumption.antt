@@ -1,24 +1,20 @@
 -- A journal record consumed at a member's machine is consumed at the member.
-use Rattle.std.proofs.Common.{◌≡◌, ◌≢◌, ◌<◌, ◌≤◌, ◌+◌, ◌-◌, ◌^◌, ◌⊎◌, ◌&&◌, ℕ, zero, suc, Bool, true, false, eqb, ltb, leb, List, [], ◌∷◌, ◌++◌, length, refl, sym, ap, ◌∙◌, subst, arith, inl, inr, MatchBool, MatchOption, Option, Some, None}
+use Rattle.std.proofs.Common.{◌≡◌, ◌≢◌, ◌<◌, ◌≤◌, ◌+◌, ◌-◌, ◌^◌, ◌⊎◌, ◌&&◌, ℕ, zero, suc, Bool, true, false, leb, List, [], ◌∷◌, ◌++◌, length, refl, sym, ap, ◌∙◌, subst, arith, inl, inr, MatchBool, MatchOption, Option, Some, None}
 use Rattle.std.specs.Prelude.{option_to_list, slice_get}
 use Rattle.std.proofs.lemmas.Bool.Decides.{nat_tests}
 use Rattle.std.proofs.lemmas.List.{length-append}
 use Rattle.frs_base.specs.Identifiers.{content_set}
 use Rattle.frs_base.specs.Options.{In}
 use Rattle.frs_base.specs.Versions.{same_gvsn}
-use Rattle.frs_base.specs.declared.version.Gvsn.{Gvsn}
-use Rattle.version_vector.specs.Limits.{IsTooLong}
 use Rattle.version_vector.specs.Versions.{covers}
 use Rattle.win_order.specs.declared.update.Update.{Update}
-use Rattle.vol_state.specs.declared.object.Object.{Object}
 use Rattle.vol_state.specs.declared.record.VolRecord.{VolRecord}
 use Rattle.vol_state.specs.State.{State}
 use Rattle.vol_state.specs.Journal.{IsNumbered, record_at}
 use Rattle.vol_state.specs.Maps.{Maps, Stands, maps_of}
-use Rattle.vol_state.specs.Tables.{IsAt}
 use Rattle.vol_state.proofs.Runs.{runs_get}
 use Rattle.record_db.specs.declared.command.BookCmd.TheVariants.{RecordLocal}
-use Rattle.record_db.specs.Records.{Covered, IsHeld, Versions, plus}
+use Rattle.record_db.specs.Records.{Covered, IsHeld, plus}
 use Rattle.record_db.specs.Standing.{IsFit, IsUnused, StandsFor}
 use Rattle.record_db.specs.State.{BookState}
 use Rattle.record_db.specs.Steps.{Changes, IsStep, has_next, is_allowed, own_version}
@@ -28,7 +24,7 @@ use Rattle.record_db.proofs.Sets.{in_after, in_append}
 use Rattle.record_db.proofs.Standing.{records_on}
 use Rattle.name_rules.specs.Recorded.{base_fence, held_of, is_deletion, made_of, recorded_of}
 use Rattle.name_rules.proofs.Cases.{made_by, made_version}
-use Rattle.world_model.specs.World.{IsConsumed, Member, World}
+use Rattle.world_model.specs.World.{IsConsumed, World}
 use Rattle.world_model.specs.Events.{Records, consumed_by, consumes}
 use Rattle.world_model.proofs.Changing.{at_same}
 use Rattle.world_model.proofs.Puts.{made_beats, made_uid}
@@ -36,8 +32,8 @@ use Rattle.folder_core.specs.declared.refusal.Refusal.TheVariants.{Skewed, Vecto
 use Rattle.folder_core.specs.declared.reply.Reply.{Reply}
 use Rattle.folder_core.specs.declared.reply.Reply.TheVariants.{Made, Nothing, Refused, Skipped}
 use Rattle.folder_core.specs.Machine.{Machine, Refuses}
-use Rattle.folder_core.specs.Books.{Changed, IsFull, Takes}
-use Rattle.folder_core.specs.Consume.{AnswersConsume, AnswersMade, AnswersRecord, is_at_end, made_at}
+use Rattle.folder_core.specs.Books.{Changed, Takes}
+use Rattle.folder_core.specs.Consume.{AnswersConsume, AnswersRecord, is_at_end, made_at}
 use Rattle.folder_core.specs.Sound.{IsInOrder}
 use Rattle.script_engine.specs.Sound.{IsSoundWorld}
 use Rattle.script_engine.specs.Standing.{AreOurs, MachineStands}

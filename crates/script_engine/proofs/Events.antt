@@ -1,7 +1,6 @@
 -- What the calls of an engine do to the scene that it stands for, one event each.
-use Rattle.std.proofs.Common.{◌≡◌, ◌≢◌, ◌<◌, ◌≤◌, ◌+◌, ◌-◌, ◌^◌, ◌⊎◌, ℕ, List, [], ◌∷◌, length, set, refl, sym, ap, ◌∙◌, subst, arith, inl, inr, Option, Some, None, Result, Ok, Err}
-use Rattle.std.specs.Prelude.{IfOk, insert, map, remove, slice_get, slice_index_or, sum_by}
-use Rattle.std.proofs.lemmas.Option.{slice_get_within}
+use Rattle.std.proofs.Common.{◌≡◌, ◌<◌, ◌≤◌, ◌+◌, ◌^◌, ◌⊎◌, ℕ, List, [], length, set, refl, sym, ap, ◌∙◌, subst, arith, inl, inr, Option, Some, None, Result, Ok, Err}
+use Rattle.std.specs.Prelude.{IfOk, map, slice_get, sum_by}
 use Rattle.frs_base.specs.Identifiers.{database_of}
 use Rattle.win_order.specs.declared.update.Update.{Update}
 use Rattle.vol_state.specs.declared.operation.LocalOp.{LocalOp}
@@ -24,10 +23,10 @@ use Rattle.script_engine.specs.Named.{AreNamed}
 use Rattle.script_engine.specs.Scene.{Scene, fresh_scene, in_world}
 use Rattle.script_engine.specs.Consuming.{widened}
 use Rattle.script_engine.specs.Widening.{Fits}
-use Rattle.script_engine.specs.Standing.{HaveRoom, MachineStands, MachinesStand, consumed_in, made_in}
+use Rattle.script_engine.specs.Standing.{HaveRoom, MachinesStand, consumed_in, made_in}
 use Rattle.script_engine.specs.Engines.{Answered, ConsumedNext, Operated, Stands, consumed_by_all, count_of, machines_of, made_by_all}
 use Rattle.script_engine.specs.Replies.{consumed_of, usn_of}
-use Rattle.script_engine.proofs.Pairs.{get_map, get_read, in_sum, map_set, put_back, set_same, sum_less, sum_set}
+use Rattle.script_engine.proofs.Pairs.{get_map, in_sum, map_set, set_same, sum_less, sum_set}
 use Rattle.script_engine.proofs.Advancing.{Goes, machines_on}
 use Rattle.script_engine.proofs.Scenes.{fresh_scene_sound}
 use Rattle.script_engine.proofs.Operating.{Done, Stays, operates}
@@ -201,16 +200,16 @@ consumed_on at moment reply old new s early room h names a =
 -- ---- an event
 
 -- what a folder answers, its engine answers
-pub answered_by : (caller at : ℕ) (e : Event) (reply : Reply) (old new : Engine) (before after : Seen) → at < length old.folders.items → before ≡ slice_index_or old.folders.items at before
-    → new.folders.items ≡ insert (remove old.folders.items at) at after → Does caller e reply before after → IsSound after.machine → Answered at e reply old new
-answered_by caller at e reply old new before after within is items (entry, history, enters) sound = record {
+pub answered_by : (caller at : ℕ) (e : Event) (reply : Reply) (old new : Engine) (before after : Seen) → slice_get old.folders.items at ≡ Some before
+    → new.folders.items ≡ set old.folders.items at after → Does caller e reply before after → IsSound after.machine → Answered at e reply old new
+answered_by caller at e reply old new before after found items (entry, history, enters) sound = record {
   place = length before.history + 1;
   before = before.machine;
   after = after.machine;
-  found = get_map (λ (f : Seen). f.machine) old.folders.items at before (get_read old.folders.items at before within is);
+  found = get_map (λ (f : Seen). f.machine) old.folders.items at before found;
   answers = enters.answers;
   order = sound.order;
-  machines = ap (map (λ (f : Seen). f.machine)) (items ∙ put_back old.folders.items at after within) ∙ map_set (λ (f : Seen). f.machine) old.folders.items at after;
+  machines = ap (map (λ (f : Seen). f.machine)) items ∙ map_set (λ (f : Seen). f.machine) old.folders.items at after;
 }
 
 -- what holds of each answer holds of the one that came

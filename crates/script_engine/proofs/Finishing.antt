@@ -1,8 +1,7 @@
 -- A round that is finished at a member's machine is finished at the member.
-use Rattle.std.proofs.Common.{◌≡◌, ◌≢◌, ◌<◌, ◌≤◌, ◌+◌, ◌⊎◌, ◌&&◌, ◌||◌, ℕ, zero, suc, Bool, true, false, not, cond, List, [], ◌∷◌, length, refl, sym, ap, ◌∙◌, subst, arith, inl, inr, MatchOption, Option, Some, None}
+use Rattle.std.proofs.Common.{◌≡◌, ◌<◌, ◌⊎◌, ℕ, Bool, true, false, not, cond, List, [], ◌∷◌, refl, sym, ap, ◌∙◌, subst, arith, inl, inr, MatchOption, Some, None}
 use Rattle.std.specs.Prelude.{find}
 use Rattle.frs_base.specs.Options.{In, some_is}
-use Rattle.frs_base.specs.declared.version.Gvsn.{Gvsn}
 use Rattle.version_vector.specs.Versions.{covers}
 use Rattle.version_vector.specs.declared.interval.Interval.{Interval}
 use Rattle.win_order.specs.Order.{key_lt, key_of}
@@ -16,23 +15,23 @@ use Rattle.record_db.proofs.Lists.{find_at}
 use Rattle.record_db.proofs.Sets.{one_set}
 use Rattle.record_db.proofs.Standing.{finishes_on}
 use Rattle.name_rules.specs.Recorded.{held_of}
-use Rattle.world_model.specs.World.{IsConsumed, Member, World, IsRecordOf, with_member}
-use Rattle.world_model.specs.Events.{Step, Finish, IsAllHeld, WasSentVector, finished_by}
+use Rattle.world_model.specs.World.{IsConsumed, World, IsRecordOf, with_member}
+use Rattle.world_model.specs.Events.{Step, Finish, finished_by}
 use Rattle.world_model.proofs.Changing.{at_same}
 use Rattle.folder_core.specs.declared.refusal.Refusal.TheVariants.{Unheld, VectorFull}
 use Rattle.folder_core.specs.declared.reply.Reply.{Reply}
 use Rattle.folder_core.specs.declared.reply.Reply.TheVariants.{Finished, Refused}
 use Rattle.folder_core.specs.Machine.{Machine, Refuses}
 use Rattle.folder_core.specs.Books.{Changed, Takes}
-use Rattle.folder_core.specs.Finish.{AnswersFinish, AnswersSeen, HasAhead, first_unheld, is_held_or_beaten}
+use Rattle.folder_core.specs.Finish.{AnswersFinish, HasAhead, first_unheld, is_held_or_beaten}
 use Rattle.folder_core.specs.Sound.{IsInOrder}
 use Rattle.script_engine.specs.Pulls.{MayFinish}
 use Rattle.script_engine.specs.Sound.{IsSoundWorld}
 use Rattle.script_engine.specs.Standing.{MachineStands}
 use Rattle.script_engine.specs.Widening.{Exceeds, Fits, IsVectorOf}
 use Rattle.script_engine.proofs.Advancing.{Goes, beside_same}
-use Rattle.script_engine.proofs.Passing.{Passes, passes_finish}
-use Rattle.script_engine.proofs.Vectors.{HasVector, vector_both}
+use Rattle.script_engine.proofs.Passing.{passes_finish}
+use Rattle.script_engine.proofs.Vectors.{vector_both}
 use Rattle.script_engine.proofs.Widths.{covered_is, exceeds_by, fits_by}
 
 -- the round is finished

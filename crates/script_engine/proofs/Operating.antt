@@ -1,5 +1,5 @@
 -- A local operation at a member's machine is one at the member.
-use Rattle.std.proofs.Common.{◌≡◌, ◌≢◌, ◌<◌, ◌≤◌, ◌+◌, ◌⊎◌, ℕ, true, false, List, length, refl, sym, ap, ◌∙◌, subst, arith, inl, inr, MatchResult, Result, Ok, Err}
+use Rattle.std.proofs.Common.{◌≡◌, ◌+◌, ◌⊎◌, ℕ, refl, sym, ap, ◌∙◌, subst, arith, inl, inr, MatchResult, Result, Ok, Err}
 use Rattle.vol_state.specs.declared.command.VolCmd.{VolCmd}
 use Rattle.vol_state.specs.declared.command.VolCmd.TheVariants.{PutNew, PutOver, Mkdir, Move, Remove, Park, Erase, Make, Rewrite, Place}
 use Rattle.vol_state.specs.declared.operation.LocalOp.{LocalOp}
@@ -14,7 +14,7 @@ use Rattle.vol_state.proofs.Tabling.{tables_are_tests}
 use Rattle.vol_state.proofs.Permitted.{resolved_may}
 use Rattle.vol_state.proofs.Resolved.{lists_resolve}
 use Rattle.record_db.specs.Standing.{StandsFor}
-use Rattle.world_model.specs.World.{Member, World, with_member}
+use Rattle.world_model.specs.World.{World, with_member}
 use Rattle.world_model.specs.Events.{Step, Local as LocalEvent, operated}
 use Rattle.world_model.proofs.Changing.{at_same}
 use Rattle.folder_core.specs.declared.refusal.Refusal.TheVariants.{Local}
@@ -26,7 +26,7 @@ use Rattle.folder_core.specs.Sound.{IsInOrder}
 use Rattle.script_engine.specs.Sound.{IsSoundWorld}
 use Rattle.script_engine.specs.Standing.{MachineStands}
 use Rattle.script_engine.proofs.Advancing.{Goes, beside_same}
-use Rattle.script_engine.proofs.Passing.{Passes, passes_local}
+use Rattle.script_engine.proofs.Passing.{passes_local}
 
 -- the command is done
 pub record Done (w : World) (d : ℕ) (op : LocalOp) (m : Machine) (reply : Reply) (new : Machine) : Type 0 where

@@ -1,36 +1,27 @@
 -- The pages and the files of a pull, one update after the other.
-use Rattle.std.proofs.Common.{◌≡◌, ◌≢◌, ◌<◌, ◌≤◌, ◌+◌, ◌++◌, ◌⊎◌, ℕ, zero, suc, Bool, true, false, not, cond, List, [], ◌∷◌, length, take, drop, get_or, refl, sym, ap, ◌∙◌, subst, arith, inl, inr, Option, Some, None, Result, Ok, Err, append_assoc, append-nil, is_lt, MatchOption}
-use Rattle.std.specs.Prelude.{filter}
+use Rattle.std.proofs.Common.{◌≡◌, ◌<◌, ◌≤◌, ◌+◌, ◌++◌, ◌⊎◌, ℕ, zero, suc, true, false, List, [], ◌∷◌, length, take, drop, get_or, refl, sym, ap, ◌∙◌, subst, arith, inl, inr, Option, Some, None, append_assoc, append-nil, MatchOption}
 use Rattle.std.specs.Cmp.{IsStrictWeakOrder}
 use Rattle.std.proofs.lemmas.Bool.Decides.{nat_tests}
 use Rattle.frs_base.specs.Options.{In}
-use Rattle.frs_base.specs.Versions.{gvsn_lt, same_gvsn}
-use Rattle.frs_base.specs.declared.version.Gvsn.{Gvsn}
-use Rattle.version_vector.specs.Versions.{covers}
-use Rattle.version_vector.specs.declared.interval.Interval.{Interval}
-use Rattle.win_order.specs.Order.{Beats, key_lt, key_of}
+use Rattle.win_order.specs.Order.{Beats, key_of}
 use Rattle.win_order.specs.declared.update.Update.{Update}
-use Rattle.record_db.specs.Lists.{IsRising, Lists}
-use Rattle.record_db.specs.Records.{Covered, IsHeld, IsHeldOrBeaten, IsRecord, Versions}
-use Rattle.record_db.proofs.Best.{covered_held}
-use Rattle.record_db.proofs.Keys.{key_cut, not_below, same_gvsn_is, same_gvsn_refl, uid_apart}
-use Rattle.record_db.proofs.Lists.{above}
+use Rattle.record_db.specs.Records.{Covered, IsHeld, IsHeldOrBeaten}
+use Rattle.record_db.proofs.Keys.{key_cut, not_below}
 use Rattle.record_db.proofs.Sets.{in_after, in_append, in_before}
 use Rattle.name_rules.specs.Tree.{is_file}
 use Rattle.world_model.specs.World.{World, IsRecordOf}
-use Rattle.world_model.specs.Events.{IsAllHeld, IsOfFile, IsOfPage, Step, Adopt, SendUpdate, SendVector, sends_vector}
+use Rattle.world_model.specs.Events.{IsOfFile, Adopt, SendUpdate}
 use Rattle.world_model.specs.Invariant.{SentIsKnown, VersionsAreMade}
 use Rattle.world_model.specs.Rounds.{IsWanted}
-use Rattle.world_model.specs.Runs.{CoversAlike, Grows}
+use Rattle.world_model.specs.Runs.{Grows}
 use Rattle.world_model.proofs.Growth.{grows_refl, grows_trans, stays, step_grows}
-use Rattle.world_model.proofs.Puts.{no_smaller, record_stayed, record_stays}
+use Rattle.world_model.proofs.Puts.{no_smaller, record_stays}
 use Rattle.world_model.proofs.Rounds.{adopted_is_held, held_stays, not_better}
 use Rattle.world_model.proofs.Versions.{step_made, step_sent}
 use Rattle.script_engine.specs.declared.refusal.Refusal.{Refusal}
 use Rattle.script_engine.specs.declared.refusal.Refusal.TheVariants.{NotYet, VectorFull}
-use Rattle.script_engine.specs.Pulling.{IsAsked, IsByVersion, IsLastPending, IsTooMuch, Takes, TakesFiles, TakesPages}
-use Rattle.script_engine.specs.Pulls.{AreCovered, ArePages, AreTreated, CanTake, uncovered, version_lt}
-use Rattle.script_engine.proofs.Members.{contains_in, in_at, in_contains}
+use Rattle.script_engine.specs.Pulling.{IsLastPending, IsTooMuch, Takes, TakesFiles, TakesPages}
+use Rattle.script_engine.specs.Pulls.{AreCovered, ArePages, AreTreated, CanTake, version_lt}
 
 -- ---- lists
 

@@ -1,6 +1,6 @@
 -- What the events of a pull do to the scene that an engine stands for.
-use Rattle.std.proofs.Common.{◌≡◌, ◌≢◌, ◌<◌, ◌≤◌, ◌+◌, ◌-◌, ◌^◌, ◌⊎◌, ℕ, zero, suc, Bool, true, false, leb, List, [], ◌∷◌, length, set, refl, sym, ap, ◌∙◌, subst, arith, inl, inr, Option, Some, None, Result, Ok, Err, MatchOption, IsTrue, ◌↔◌, map}
-use Rattle.std.specs.Prelude.{find, slice_get, sum_by}
+use Rattle.std.proofs.Common.{◌≡◌, ◌≢◌, ◌<◌, ◌≤◌, ◌+◌, ◌-◌, ◌^◌, ◌⊎◌, ℕ, zero, suc, Bool, true, false, leb, List, [], ◌∷◌, length, set, refl, sym, ap, ◌∙◌, subst, arith, inl, inr, Option, Some, None, Result, Ok, Err, MatchOption, IsTrue, ◌↔◌}
+use Rattle.std.specs.Prelude.{find, slice_get}
 use Rattle.std.proofs.lemmas.List.{length-map}
 use Rattle.std.proofs.lemmas.Bool.Decides.{nat_tests}
 use Rattle.std.proofs.lemmas.Option.{slice_get_within}
@@ -17,14 +17,13 @@ use Rattle.record_db.specs.Records.{Covered, IsHeld, Versions}
 use Rattle.record_db.proofs.Best.{one_held}
 use Rattle.record_db.proofs.Lists.{found_held}
 use Rattle.world_model.specs.World.{Member, World}
-use Rattle.world_model.specs.Events.{IsOfFile, IsOfPage, Step, SendUpdate, sends_update, sends_vector}
+use Rattle.world_model.specs.Events.{IsOfFile, IsOfPage, sends_update, sends_vector}
 use Rattle.world_model.specs.Rounds.{IsWanted}
 use Rattle.folder_core.specs.declared.event.Event.TheVariants as event
 use Rattle.folder_core.specs.declared.reply.Reply.{Reply}
 use Rattle.folder_core.specs.Machine.{Machine}
 use Rattle.folder_core.specs.Replay.{Seen}
 use Rattle.script_engine.specs.declared.engine.Engine.{Engine}
-use Rattle.script_engine.specs.declared.engine.pulling.Fetched.{Fetched}
 use Rattle.script_engine.specs.declared.refusal.Refusal.{Refusal}
 use Rattle.script_engine.specs.declared.refusal.Refusal.TheVariants.{VectorFull}
 use Rattle.script_engine.specs.Engines.{Answered, Stands, machines_of, made_by_all}
@@ -32,10 +31,8 @@ use Rattle.script_engine.specs.Pulls.{CanTake, Ended, FetchedFrom, IsPinned, May
 use Rattle.script_engine.specs.Replies.{file_of, pinned_of, taken_of}
 use Rattle.script_engine.specs.declared.names.MemberName.{MemberName}
 use Rattle.script_engine.specs.Scene.{Scene, in_world, numbered}
-use Rattle.script_engine.specs.Sound.{IsNobodys}
-use Rattle.script_engine.specs.Standing.{HaveRoom, MachineStands, MachinesStand, made_in}
+use Rattle.script_engine.specs.Standing.{HaveRoom, MachineStands, MachinesStand}
 use Rattle.script_engine.proofs.Adopting.{Adopts, IsOurs, IsTooWide as IsTooWideFor, adopts_at}
-use Rattle.script_engine.proofs.Advancing.{machines_on}
 use Rattle.script_engine.proofs.Events.{few_recorded, made_after, small_at, stands_on, stands_still}
 use Rattle.script_engine.proofs.Finishing.{Finishes, IsTooWide as IsTooWideIn, finishes_at}
 use Rattle.script_engine.proofs.Pairs.{get_within}

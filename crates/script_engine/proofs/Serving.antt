@@ -1,28 +1,26 @@
 -- What a member's machine sends, the member sends.
-use Rattle.std.proofs.Common.{◌≡◌, ◌≢◌, ◌<◌, ◌≤◌, ◌+◌, ◌⊎◌, ℕ, Bool, true, false, List, length, refl, sym, ap, ◌∙◌, subst, arith, inl, inr, Option, Some, None}
+use Rattle.std.proofs.Common.{◌≡◌, ◌<◌, ◌⊎◌, ℕ, List, length, refl, subst, inl, inr, Option, Some, None}
 use Rattle.frs_base.specs.declared.version.Uid.{Uid}
 use Rattle.win_order.specs.declared.update.Update.{Update}
-use Rattle.vol_state.specs.declared.record.VolRecord.{VolRecord}
 use Rattle.vol_state.specs.Journal.{pending_local}
-use Rattle.vol_state.specs.Pending.{IsLastPending as IsLastIn, IsPending as IsPendingIn}
+use Rattle.vol_state.specs.Pending.{IsLastPending as IsLastIn}
 use Rattle.vol_state.proofs.Recent.{pending_is_last}
 use Rattle.record_db.specs.Records.{Covered, IsHeld}
 use Rattle.record_db.proofs.Lists.{found_held}
 use Rattle.name_rules.specs.Next.{IsPending}
 use Rattle.name_rules.specs.Recorded.{held_of}
 use Rattle.pinned_pages.specs.declared.answer.FileAnswer.TheVariants.{Found, NotYet}
-use Rattle.world_model.specs.World.{World, IsRecordOf}
-use Rattle.world_model.specs.Events.{IsOfFile, Step, SendUpdate, SendVector, sends_update, sends_vector}
+use Rattle.world_model.specs.World.{World}
+use Rattle.world_model.specs.Events.{IsOfFile, Step, SendUpdate, sends_update, sends_vector}
 use Rattle.folder_core.specs.declared.reply.Reply.{Reply}
 use Rattle.folder_core.specs.declared.reply.Reply.TheVariants.{File}
 use Rattle.folder_core.specs.Machine.{Machine}
 use Rattle.folder_core.specs.Serve.{AnswersFile, answer_by}
 use Rattle.script_engine.specs.Scene.{Scene, in_world}
-use Rattle.script_engine.specs.Sound.{IsSoundWorld}
 use Rattle.script_engine.specs.Standing.{MachineStands, MachinesStand}
 use Rattle.script_engine.specs.Pulling.{IsLastPending}
 use Rattle.script_engine.proofs.Advancing.{scene_on}
-use Rattle.script_engine.proofs.Passing.{Passes, passes_update, passes_vector}
+use Rattle.script_engine.proofs.Passing.{passes_update, passes_vector}
 
 -- ---- what is sent changes no machine
 

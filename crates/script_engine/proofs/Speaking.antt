@@ -1,6 +1,6 @@
 -- What lines print and leave, by all of their names.
-use Rattle.std.proofs.Common.{◌≡◌, ◌≢◌, ◌<◌, ◌≤◌, ◌+◌, ◌++◌, ◌⊎◌, ℕ, zero, suc, Bool, true, false, cond, List, [], ◌∷◌, length, map, refl, sym, ap, ◌∙◌, subst, arith, inl, inr, Option, Some, None, Result, Ok, Err, IfOk, String, bytes_eq, MatchOption, All}
-use Rattle.std.specs.Prelude.{codes, decimal, is_some, slice_get, string_bytes, sum_by}
+use Rattle.std.proofs.Common.{◌≡◌, ◌≢◌, ◌+◌, ◌++◌, ◌⊎◌, ℕ, zero, suc, true, false, cond, List, [], ◌∷◌, length, map, refl, sym, ap, ◌∙◌, subst, arith, inl, inr, Some, None, Result, Ok, Err, IfOk, String, bytes_eq, MatchOption}
+use Rattle.std.specs.Prelude.{codes, decimal, is_some, slice_get, string_bytes}
 use Rattle.std.specs.declared.alloc.Global.{Global}
 use Rattle.std.proofs.lemmas.List.{length-append}
 use Rattle.std.proofs.lemmas.List.Elements.{All-push}
@@ -10,7 +10,7 @@ use Rattle.frs_base.specs.Identifiers.{content_set, database_of}
 use Rattle.frs_base.specs.declared.kind.MemberKind.{MemberKind}
 use Rattle.record_db.proofs.Standing.{begins_standing}
 use Rattle.win_order.specs.declared.update.Update.{Update}
-use Rattle.world_model.specs.World.{Member, World, fresh_member, with_member}
+use Rattle.world_model.specs.World.{Member, World, fresh_member}
 use Rattle.world_model.proofs.Changing.{at_other, at_same}
 use Rattle.folder_core.specs.Machine.{Machine, fresh_machine}
 use Rattle.folder_core.specs.Replay.{Seen}
@@ -22,16 +22,15 @@ use Rattle.script_engine.specs.declared.engine.Engine.{Engine}
 use Rattle.script_engine.specs.declared.names.MemberName.{MemberName}
 use Rattle.script_engine.specs.declared.refusal.Refusal.{Refusal}
 use Rattle.script_engine.specs.declared.refusal.Refusal.TheVariants.{Exists, Itself, Unknown}
-use Rattle.script_engine.specs.Engines.{AtNamed, Stands, machines_of, made_by_all}
+use Rattle.script_engine.specs.Engines.{AtNamed, Stands, machines_of}
 use Rattle.script_engine.specs.Named.{AreNamed}
 use Rattle.script_engine.specs.Printed.{printed}
-use Rattle.script_engine.specs.Pulling.{Pulls}
 use Rattle.script_engine.specs.Pulls.{PullEnds}
 use Rattle.script_engine.specs.Refusals.{first_refusal, refused_text, unless_named}
-use Rattle.script_engine.specs.Scene.{IsNamed, Scene, in_world, members_of, numbered, place_of, with_name}
+use Rattle.script_engine.specs.Scene.{IsNamed, Scene, in_world, numbered, place_of, with_name}
 use Rattle.script_engine.specs.Sound.{IsNobodys}
-use Rattle.script_engine.specs.Standing.{MachineStands, MachinesStand, consumed_in, made_in}
-use Rattle.script_engine.specs.Text.{Acts, Does, IsRefused, text_unless}
+use Rattle.script_engine.specs.Standing.{MachineStands, MachinesStand, consumed_in}
+use Rattle.script_engine.specs.Text.{Acts, Does, IsRefused}
 use Rattle.script_engine.proofs.Events.{ok_by}
 use Rattle.script_engine.proofs.Scenes.{sound_with_name}
 use Rattle.script_engine.proofs.Spoken.{does_at}

@@ -1,5 +1,5 @@
 -- What lines at a member print and leave.
-use Rattle.std.proofs.Common.{◌≡◌, ◌<◌, ◌+◌, ◌++◌, ℕ, zero, suc, Bool, cond, not, ltb, List, [], ◌∷◌, length, map, refl, sym, ap, ◌∙◌, subst, arith, inl, inr, Option, Some, None, Result, Ok, Err, IfOk, String, bytes_eq, MatchOption}
+use Rattle.std.proofs.Common.{◌≡◌, ◌<◌, ◌+◌, ◌++◌, ℕ, zero, suc, cond, not, ltb, List, [], ◌∷◌, length, refl, sym, ap, ◌∙◌, subst, arith, inl, Option, Some, None, Result, Ok, Err, IfOk, String, bytes_eq, MatchOption}
 use Rattle.std.specs.Prelude.{is_some, option_to_list, position, slice_get, string_bytes}
 use Rattle.std.specs.List.{position_or_len}
 use Rattle.std.specs.declared.alloc.Global.{Global}
@@ -18,15 +18,13 @@ use Rattle.folder_core.specs.Replay.{Seen}
 use Rattle.script_lang.specs.declared.line.Line.{Line}
 use Rattle.script_engine.specs.declared.consumed.Consumed.{Consumed}
 use Rattle.script_engine.specs.declared.engine.Engine.{Engine}
-use Rattle.script_engine.specs.declared.names.MemberName.{MemberName}
 use Rattle.script_engine.specs.declared.refusal.Refusal.{Refusal}
 use Rattle.script_engine.specs.declared.refusal.Refusal.TheVariants.{Local, Unknown}
-use Rattle.script_engine.specs.Consuming.{ConsumesAll}
 use Rattle.script_engine.specs.Engines.{AtNamed, ConsumedAll, ConsumedNext, Operated, Stands}
 use Rattle.script_engine.specs.Refusals.{first_refusal, refused_text, unless_named}
 use Rattle.script_engine.specs.Scene.{IsNamed, Scene, in_world, numbered, place_of}
 use Rattle.script_engine.specs.Standing.{MachineStands}
-use Rattle.script_engine.specs.Text.{Acts, Changes, Consumes, Counts, Does, IsRefused, Operates, PrintsTree, Shows, count_text, filled, last_text, records_text, text_unless, usn_text, vector_text}
+use Rattle.script_engine.specs.Text.{Acts, Changes, Consumes, Counts, Does, IsRefused, Operates, PrintsTree, Shows, count_text, filled, last_text, records_text, usn_text, vector_text}
 use Rattle.script_engine.specs.Trees.{IsTreeOf, Row, tree_text}
 use Rattle.script_engine.specs.Widening.{IsVectorOf}
 use Rattle.script_engine.proofs.Consumption.{maps_are}

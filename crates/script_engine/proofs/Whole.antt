@@ -1,15 +1,15 @@
 -- A whole pull of its parts.
-use Rattle.std.proofs.Common.{◌≡◌, ◌+◌, ◌⊎◌, ℕ, Bool, true, false, List, [], ◌∷◌, refl, sym, ap, ◌∙◌, subst, inl, inr, Option, Some, None, Result, Ok, Err}
+use Rattle.std.proofs.Common.{◌≡◌, ◌+◌, ℕ, Bool, true, false, List, [], ◌∷◌, refl, sym, subst, inl, inr, Option, Some, None, Ok, Err}
 use Rattle.std.specs.Prelude.{slice_get}
 use Rattle.std.specs.List.Sorted.{IsPermutation, IsSortedBy}
 use Rattle.frs_base.specs.Identifiers.{database_of}
 use Rattle.frs_base.specs.Options.{In}
 use Rattle.version_vector.specs.declared.interval.Interval.{Interval}
 use Rattle.win_order.specs.declared.update.Update.{Update}
-use Rattle.record_db.specs.Records.{Covered, IsHeldOrBeaten, IsRecord, Versions}
+use Rattle.record_db.specs.Records.{IsHeldOrBeaten, IsRecord, Versions}
 use Rattle.record_db.proofs.Best.{covered_held}
 use Rattle.world_model.specs.World.{World, IsRecordOf}
-use Rattle.world_model.specs.Events.{IsAllHeld, sends_vector}
+use Rattle.world_model.specs.Events.{sends_vector}
 use Rattle.world_model.specs.Invariant.{VersionsAreMade}
 use Rattle.world_model.specs.Runs.{Grows}
 use Rattle.world_model.proofs.Growth.{grows_trans, stays}
@@ -25,7 +25,7 @@ use Rattle.script_engine.specs.Engines.{Stands}
 use Rattle.script_engine.specs.Named.{HasName}
 use Rattle.script_engine.specs.Scene.{Scene, in_world}
 use Rattle.script_engine.specs.Pulling.{Ends, IsAsked, Pulls, TakesFiles, TakesPages}
-use Rattle.script_engine.specs.Pulls.{AreCovered, ArePages, AreTreated, Ended, FilesTaken, IsPinned, MayFinish, PagesTaken, PullEnds, uncovered, version_lt}
+use Rattle.script_engine.specs.Pulls.{AreCovered, ArePages, AreTreated, FilesTaken, IsPinned, MayFinish, PagesTaken, PullEnds, uncovered, version_lt}
 use Rattle.script_engine.specs.Widening.{IsVectorOf}
 use Rattle.script_engine.proofs.Asking.{asked_page}
 use Rattle.script_engine.proofs.Spoken.{machine_held}

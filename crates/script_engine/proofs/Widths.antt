@@ -1,15 +1,13 @@
 -- What a book says of the width of its vector.
-use Rattle.std.proofs.Common.{◌≡◌, ◌<◌, ◌≤◌, ◌||◌, ℕ, Bool, true, false, List, length, refl, sym, ap, ◌∙◌, subst}
-use Rattle.frs_base.specs.Versions.{same_gvsn}
-use Rattle.frs_base.specs.declared.version.Gvsn.{Gvsn}
+use Rattle.std.proofs.Common.{◌≡◌, ◌≤◌, ℕ, List, length, subst}
 use Rattle.version_vector.specs.Limits.{IsTooLong}
 use Rattle.version_vector.specs.Versions.{covers}
 use Rattle.version_vector.specs.declared.errors.VectorError.TheVariants as vector
 use Rattle.version_vector.specs.declared.interval.Interval.{Interval}
-use Rattle.record_db.specs.Records.{Versions, both, plus}
+use Rattle.record_db.specs.Records.{Versions}
 use Rattle.record_db.specs.State.{IsVector}
 use Rattle.record_db.proofs.Sets.{one_set}
-use Rattle.script_engine.specs.Widening.{Exceeds, Fits, IsVectorOf}
+use Rattle.script_engine.specs.Widening.{Exceeds, Fits}
 use Rattle.script_engine.proofs.Vectors.{HasVector}
 
 -- a set that a vector covers

@@ -1,5 +1,5 @@
 -- What the parts of a pull do.
-use Rattle.std.specs.Prelude.{◌≡◌, ◌≢◌, ◌⊎◌, not, ℕ, Bool, true, false, List, [], Option, Some, None, Result, Ok, Err, filter}
+use Rattle.std.specs.Prelude.{◌≡◌, ◌⊎◌, not, ℕ, Bool, true, false, List, Some, None, Result, Ok, Err, filter}
 use Rattle.frs_base.specs.Options.{In}
 use Rattle.frs_base.specs.Versions.{gvsn_lt}
 use Rattle.frs_base.specs.declared.version.Uid.{Uid}

@@ -1,5 +1,5 @@
 -- Which scene an engine stands for.
-use Rattle.std.specs.Prelude.{◌≡◌, ◌<◌, ◌≤◌, ◌+◌, ◌-◌, ◌^◌, ℕ, List, Some, length, map, slice_get, sum_by}
+use Rattle.std.specs.Prelude.{◌≡◌, ◌<◌, ◌≤◌, ◌+◌, ◌-◌, ◌^◌, ℕ, List, Some, length, slice_get, sum_by}
 use Rattle.frs_base.specs.Identifiers.{content_set, database_of}
 use Rattle.frs_base.specs.Options.{In}
 use Rattle.win_order.specs.declared.update.Update.{Update}

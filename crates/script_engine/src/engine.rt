@@ -2,6 +2,8 @@
 ghost use Rattle.std.specs.Prelude.{◌≡◌, ◌<◌, ◌≤◌, ◌^◌, IfOk, OnOk, Some, bytes_eq, length, position, slice_get, string_bytes, true};
 ghost use Rattle.frs_base.specs.Identifiers.{database_of};
 ghost use Rattle.folder_core.specs.Replay.{IsEarlyEvent};
+ghost use Rattle.folder_core.specs.Replay as replay;
+ghost use Rattle.folder_core.specs.Sound.{IsSound};
 ghost use Rattle.script_engine.specs.Scene.{Scene, fresh_scene, in_world};
 
 mod journal;
@@ -97,11 +99,15 @@ impl Engine {
         ensures many { length self.new.folders.items ≡ length self.old.folders.items }
         ensures ok { IfOk result (λ reply. Answered at event reply self.old self.new) }
     {
-        let mut folder = self.folders.remove(at);
-        let reply = folder.event(alloc, SCRIPT, event);
-        let _ = folder.book();
-        self.folders.insert(at, folder);
-        reply
+        self.folders.change(at, |folder|
+            requires { IsEarlyEvent event }
+            ensures does { IfOk result (λ reply. replay.Does 0 event reply folder.old folder.new) }
+            ensures sound { IsSound folder.new.machine }
+        {
+            let reply = folder.event(alloc, SCRIPT, event);
+            let _ = folder.book();
+            reply
+        })
     }
 
     /// A local operation: its USN, or its first refusal.

@@ -1,4 +1,4 @@
-use Rattle.std.proofs.Common.{◌≡◌, ◌∙◌, ◌+◌, List, [], ◌∷◌, ◌++◌, ap, length, refl}
+use Rattle.std.proofs.Common.{◌∙◌, ◌+◌, List, [], ◌∷◌, ◌++◌, ap, length, refl}
 use Rattle.folder_core.specs.declared.entry.Entry.{Entry}
 use Rattle.folder_core.specs.Replay.{Seen}
 use Rattle.folder_core.proofs.Replaying.{does_keep, does_of}

@@ -1,5 +1,4 @@
-use Rattle.std.proofs.Common.{◌≡◌, ◌∙◌, ◌<◌, ◌-◌, ◌^◌, ap, sym, subst, None, Some}
-use Rattle.record_db.specs.declared.command.BookCmd.TheVariants as cmd
+use Rattle.std.proofs.Common.{◌∙◌, ◌<◌, ◌-◌, ◌^◌, sym, subst, None, Some}
 use Rattle.usn_consumer.specs.Next.{HasClock}
 use Rattle.folder_core.specs.Machine.{Machine}
 use Rattle.folder_core.proofs.Consuming.{answers_recorded, have_clocks_of, is_next, may_at, may_record}

@@ -1,4 +1,4 @@
-use Rattle.std.proofs.Common.{◌≡◌, ◌∙◌, ap}
+use Rattle.std.proofs.Common.{◌∙◌, ap}
 use Rattle.folder_core.specs.Machine.{Machine}
 use Rattle.folder_core.proofs.Finishing.{least_found, none_found}
 use Rattle.folder_core.proofs.machine.Machine.least_ahead.Goals as goal

@@ -1,4 +1,4 @@
-use Rattle.std.proofs.Common.{sym, subst}
+use Rattle.std.proofs.Common.{subst}
 use Rattle.vol_state.specs.Valid.{IsVolume}
 use Rattle.record_db.specs.State.{IsBook}
 use Rattle.folder_core.proofs.Sounding.{fresh_is_sound}

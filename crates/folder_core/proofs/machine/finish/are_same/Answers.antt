@@ -1,4 +1,4 @@
-use Rattle.std.proofs.Common.{◌≡◌, ◌∙◌, ap, sym}
+use Rattle.std.proofs.Common.{◌∙◌, ap, sym}
 use Rattle.std.specs.Cmp.Lexicographic.{pointwise}
 use Rattle.folder_core.proofs.Finishing.{interval_same, interval_told, list_told, lists_told, same_interval}
 use Rattle.folder_core.proofs.machine.finish.are_same.Goals as goal

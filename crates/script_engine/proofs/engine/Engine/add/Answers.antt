@@ -6,7 +6,6 @@ use Rattle.script_lang.specs.declared.line.Line.TheVariants as lines
 use Rattle.script_engine.specs.declared.engine.Engine.{Engine}
 use Rattle.script_engine.specs.declared.names.MemberName.{MemberName}
 use Rattle.script_engine.specs.declared.refusal.Refusal.TheVariants.{Exists}
-use Rattle.script_engine.specs.Engines.{Stands}
 use Rattle.script_engine.specs.Refusals.{refused_text}
 use Rattle.script_engine.specs.Scene.{place_of, with_name}
 use Rattle.script_engine.specs.Text.{Does}

@@ -1,4 +1,4 @@
-use Rattle.std.proofs.Common.{◌≡◌, ◌<◌, ◌+◌, ◌∙◌, [], sym, subst, arith, length, Ok, Err}
+use Rattle.std.proofs.Common.{◌+◌, ◌∙◌, [], sym, subst, arith, Ok, Err}
 use Rattle.frs_base.specs.Identifiers.{database_of}
 use Rattle.vol_state.specs.declared.operation.LocalOp.TheVariants.{Put}
 use Rattle.script_engine.specs.Engines.{ConsumedAll, Operated}

@@ -1,10 +1,7 @@
-use Rattle.std.proofs.Common.{◌≡◌, ◌<◌, ◌+◌, ◌-◌, ◌++◌, ◌∷◌, [], List, Some, None, Ok, Err, Result, Option, ap, sym, ◌∙◌, subst, arith, length}
+use Rattle.std.proofs.Common.{◌≡◌, ◌+◌, ◌++◌, ◌∷◌, [], Some, None, Ok, Err, ap, ◌∙◌, subst, arith}
 use Rattle.frs_base.specs.Identifiers.{database_of}
-use Rattle.world_model.specs.World.{World}
-use Rattle.script_engine.specs.declared.consumed.Consumed.{Consumed}
-use Rattle.script_engine.specs.declared.refusal.Refusal.{Refusal}
-use Rattle.script_engine.specs.Engines.{ConsumedNext, HasScene, Stands, consumed_by_all, count_of, machines_of}
-use Rattle.script_engine.specs.Scene.{Scene, in_world}
+use Rattle.script_engine.specs.Engines.{ConsumedNext, consumed_by_all, count_of, machines_of}
+use Rattle.script_engine.specs.Scene.{in_world}
 use Rattle.script_engine.proofs.Events.{consumed_less}
 use Rattle.script_engine.proofs.Exhausting.{at_end, cut, last_push, one_more}
 use Rattle.script_engine.proofs.engine.Engine.consume_all.Goals as goal

@@ -1,9 +1,8 @@
-use Rattle.std.proofs.Common.{◌≡◌, ◌+◌, ◌∙◌, sym, subst}
+use Rattle.std.proofs.Common.{◌+◌, ◌∙◌, sym, subst}
 use Rattle.frs_base.specs.Identifiers.{database_of}
 use Rattle.script_engine.specs.Engines.{ConsumedNext}
 use Rattle.script_engine.specs.Scene.{in_world}
 use Rattle.script_engine.specs.Text.{Consumes}
-use Rattle.script_engine.proofs.Exhausting.{next_refused}
 use Rattle.script_engine.proofs.Spoken.{consumed_done, consumed_refused, known_said, unknown_said, within_held}
 use Rattle.script_engine.proofs.engine.Engine.consume_line.Goals as goal
 

@@ -1,5 +1,4 @@
 use Rattle.std.proofs.Common.{◌≡◌, ◌+◌, ◌∙◌, ap, sym, subst}
-use Rattle.std.specs.Prelude.{string_bytes}
 use Rattle.frs_base.specs.Identifiers.{database_of}
 use Rattle.vol_state.specs.Maps.{maps_of}
 use Rattle.script_engine.specs.Text.{Counts, count_text}

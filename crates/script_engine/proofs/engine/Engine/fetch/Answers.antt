@@ -1,4 +1,4 @@
-use Rattle.std.proofs.Common.{◌≡◌, ◌+◌, ◌∙◌, Some, sym, subst}
+use Rattle.std.proofs.Common.{◌≡◌, ◌+◌, subst}
 use Rattle.frs_base.specs.Identifiers.{database_of}
 use Rattle.pinned_pages.specs.declared.answer.FileAnswer.TheVariants.{Found, NotYet, NoRecord}
 use Rattle.script_engine.proofs.Puller.{Answers, fetched_on}

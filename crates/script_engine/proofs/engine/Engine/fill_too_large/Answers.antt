@@ -1,4 +1,4 @@
-use Rattle.std.proofs.Common.{◌∙◌, sym, IfOk}
+use Rattle.std.proofs.Common.{◌∙◌, sym}
 use Rattle.vol_state.specs.declared.operation.LocalOp.TheVariants.{Put}
 use Rattle.script_engine.specs.Text.{Operates, filled}
 use Rattle.script_engine.proofs.Spoken.{fill_refused, known_printed, unknown_printed}

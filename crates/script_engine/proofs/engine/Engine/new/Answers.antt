@@ -1,5 +1,4 @@
-use Rattle.std.proofs.Common.{refl, ap, sym, subst, arith}
-use Rattle.script_engine.specs.Engines.{Stands}
+use Rattle.std.proofs.Common.{ap}
 use Rattle.script_engine.proofs.Events.{fresh_stands}
 use Rattle.script_engine.proofs.engine.Engine.new.Goals as goal
 

@@ -1,7 +1,5 @@
 use Rattle.std.proofs.Common.{◌≡◌, ◌+◌, subst}
-use Rattle.script_engine.specs.Engines.{Operated, Stands}
-use Rattle.script_engine.specs.Scene.{in_world}
-use Rattle.world_model.specs.World.{World}
+use Rattle.script_engine.specs.Engines.{Operated}
 use Rattle.frs_base.specs.Identifiers.{database_of}
 use Rattle.script_engine.proofs.Events.{operated_on}
 use Rattle.script_engine.proofs.engine.Engine.operate.Goals as goal

@@ -1,4 +1,4 @@
-use Rattle.std.proofs.Common.{◌≡◌, ◌+◌, ◌∙◌, ap, sym, subst, Some, None, Ok, Err}
+use Rattle.std.proofs.Common.{◌+◌, ◌∙◌, ap, sym, subst}
 use Rattle.frs_base.specs.Identifiers.{database_of}
 use Rattle.world_model.specs.Events.{sends_vector}
 use Rattle.script_engine.specs.Pulls.{AreCovered, ArePages, Ended, FilesTaken, MayFinish, PagesTaken}

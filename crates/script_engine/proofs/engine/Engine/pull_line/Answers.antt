@@ -1,4 +1,4 @@
-use Rattle.std.proofs.Common.{◌≡◌, ◌+◌, ◌∙◌, ap, sym, subst, true, false, bytes_eq, Some, None, Ok, Err}
+use Rattle.std.proofs.Common.{◌≡◌, ◌+◌, ◌∙◌, sym, subst, true, false, bytes_eq}
 use Rattle.frs_base.specs.Identifiers.{database_of}
 use Rattle.script_lang.specs.declared.line.Line.TheVariants.{Pull}
 use Rattle.script_engine.specs.Engines.{Stands}

@@ -1,4 +1,4 @@
-use Rattle.std.proofs.Common.{◌≡◌, ◌<◌, ◌≤◌, ◌+◌, ◌∙◌, ap, sym, subst, length, Ok, Err, Some, arith}
+use Rattle.std.proofs.Common.{◌+◌, ◌∙◌, ap, sym, subst, length, Some, arith}
 use Rattle.frs_base.specs.Identifiers.{database_of}
 use Rattle.world_model.specs.Rounds.{IsWanted}
 use Rattle.script_engine.specs.Engines.{Stands, made_by_all}

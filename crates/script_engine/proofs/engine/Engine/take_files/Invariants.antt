@@ -1,4 +1,4 @@
-use Rattle.std.proofs.Common.{◌≡◌, ◌<◌, ◌≤◌, ◌+◌, length}
+use Rattle.std.proofs.Common.{◌≡◌, ◌≤◌, ◌+◌, length}
 use Rattle.frs_base.specs.Identifiers.{database_of}
 use Rattle.world_model.specs.World.{World}
 use Rattle.script_engine.specs.Engines.{Stands, made_by_all}

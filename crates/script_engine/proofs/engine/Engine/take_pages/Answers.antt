@@ -1,4 +1,4 @@
-use Rattle.std.proofs.Common.{◌≡◌, ◌<◌, ◌≤◌, ◌+◌, ◌++◌, ◌∷◌, [], ◌∙◌, ap, sym, subst, length, true, false, Ok, Err, Some, arith}
+use Rattle.std.proofs.Common.{◌≡◌, ◌+◌, ◌++◌, ◌∷◌, [], ◌∙◌, ap, sym, subst, length, true, false, Some, arith}
 use Rattle.frs_base.specs.Identifiers.{database_of}
 use Rattle.name_rules.specs.Tree.{is_file}
 use Rattle.world_model.specs.Rounds.{IsWanted}

@@ -1,4 +1,4 @@
-use Rattle.std.proofs.Common.{◌≡◌, ◌+◌, ◌∙◌, ap, sym, inl, refl}
+use Rattle.std.proofs.Common.{◌+◌, ◌∙◌, ap, sym, inl, refl}
 use Rattle.std.specs.Prelude.{find, option_copied}
 use Rattle.frs_base.specs.Identifiers.{database_of}
 use Rattle.frs_base.specs.Versions.{same_uid}

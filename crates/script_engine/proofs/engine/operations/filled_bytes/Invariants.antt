@@ -1,4 +1,4 @@
-use Rattle.std.proofs.Common.{◌≡◌, ◌≤◌}
+use Rattle.std.proofs.Common.{◌≡◌}
 use Rattle.script_engine.specs.Text.{filled}
 use Rattle.script_engine.proofs.engine.operations.filled_bytes.Given as goal
 
