@@ -99,15 +99,18 @@ impl Engine {
         ensures many { length self.new.folders.items ≡ length self.old.folders.items }
         ensures ok { IfOk result (λ reply. Answered at event reply self.old self.new) }
     {
-        self.folders.change(at, |folder|
-            requires { IsEarlyEvent event }
-            ensures does { IfOk result (λ reply. replay.Does 0 event reply folder.old folder.new) }
-            ensures sound { IsSound folder.new.machine }
-        {
-            let reply = folder.event(alloc, SCRIPT, event);
-            let _ = folder.book();
-            reply
-        })
+        self.folders.change(
+            at,
+            |folder|
+                requires { IsEarlyEvent event }
+                ensures does { IfOk result (λ reply. replay.Does 0 event reply folder.old folder.new) }
+                ensures sound { IsSound folder.new.machine }
+            {
+                let reply = folder.event(alloc, SCRIPT, event);
+                let _ = folder.book();
+                reply
+            },
+        )
     }
 
     /// A local operation: its USN, or its first refusal.

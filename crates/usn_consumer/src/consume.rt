@@ -11,11 +11,7 @@ use vol_state::Volume;
 const CLOCK_END: u64 = 0x4000_0000_0000_0000;
 
 /// What consuming the next journal record of a member at a moment comes to.
-pub fn next_record(
-    volume: &Volume,
-    book: &Book,
-    moment: u64,
-) -> Result<Consumed, ConsumeError>
+pub fn next_record(volume: &Volume, book: &Book, moment: u64) -> Result<Consumed, ConsumeError>
     requires own { volume.now.state.own ≡ book.now.state.own }
     requires next { IsNext volume.now.state book.now.state.consumed }
     requires clocks { have_clocks book.now.state.records ≡ true }
