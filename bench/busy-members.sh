@@ -1,7 +1,7 @@
 #!/bin/sh
-# Times the built program on three members that change, remove, consume and pull: of 90 lines 60 are
-# `change`, 10 `remove`, 10 `consume` and 9 `pull`, over 97 paths. Each time is the least of five
-# runs, with the start of the process in it; the memory is the most that the process held.
+# Times the built program on three members that change, remove, consume and pull: of 80 lines 54 are
+# `change`, 9 `remove`, 9 `consume` and 8 `pull`, over 97 paths. Each time is the least of five runs,
+# with the start of the process in it; the memory is the most that the process held.
 # Usage: bench/busy-members.sh, anywhere in the repository.
 set -eu
 top=$(cd "$(dirname "$0")/.." && pwd)
@@ -10,15 +10,18 @@ dfsr=$top/crates/dfsr/out/dfsr
 work=$(mktemp -d)
 trap 'rm -rf "$work"' EXIT
 
-# three members and this many lines, then what each member holds: in groups of eight one member
-# changes six files, removes the last of them and consumes that, and every tenth line is a pull
+# three members and this many lines, then what each member holds: one member changes six files,
+# removes the last of them and consumes that, then the next member does; every tenth line is a pull
+# from the next member by one of the others
 busy() {
     printf 'member a primary\nmember b plain\nmember c plain\n'
     awk -v lines="$1" 'BEGIN {
         split("a b c", m, " ")
         for (i = 0; i < lines; i++) {
-            if (i % 90 == 89) { print "count " m[group % 3 + 1]; continue }
-            if (i % 10 == 9) { n = int(i / 10); print "pull " m[n % 3 + 1] " " m[(n + 1 + int(n / 3) % 2) % 3 + 1]; continue }
+            if (i % 10 == 9) {
+                print "pull " m[(group + 2 * (int(i / 10) % 2)) % 3 + 1] " " m[(group + 1) % 3 + 1]
+                continue
+            }
             own = m[group % 3 + 1]
             if (step < 6) { file = "f" (group * 7 + step * 13) % 97; print "change " own " " file " " i }
             else if (step == 6) print "remove " own " " file
@@ -48,6 +51,5 @@ EOF
 for lines in 5000 10000 20000 40000; do
     busy $lines >"$work/script"
     echo "$lines lines: $(measured "$work/script")"
-    grep -c '^refused' "$work/out" | sed 's/^/refused lines: /' || true
     tail -n 1 "$work/out"
 done

@@ -47,9 +47,9 @@ impl Machine {
         ensures allowed { IfOk result (λ cmd. is_allowed cmd self.now.volume ≡ true) }
     {
         match operation {
-            LocalOp::Put { path, bytes } => { self.volume.put(path.as_slice(), bytes.into_vec()) }
+            LocalOp::Put { path, bytes } => self.volume.put(path.as_slice(), bytes.into_vec()),
             LocalOp::Mkdir { path } => self.volume.mkdir(path.as_slice()),
-            LocalOp::Move { from, to } => { self.volume.move_to(from.as_slice(), to.as_slice()) }
+            LocalOp::Move { from, to } => self.volume.move_to(from.as_slice(), to.as_slice()),
             LocalOp::Remove { path } => Ok(self.volume.remove(path.as_slice())),
         }
     }
