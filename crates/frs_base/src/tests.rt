@@ -62,11 +62,14 @@ fn names_of_units(rt: HostRuntime) -> Result<(), Fail> {
     let most = vec![in alloc; 0x78; 255]?;
     let name = Name::from_units(alloc, &most)?;
     assert_eq!(rt; name.units(), most.as_slice());
+    let taken = vec![in alloc; 0x78; 255]?;
+    assert!(rt; Name::from_vec(taken)? == name);
     let more = vec![in alloc; 0x78; 256]?;
     assert_eq!(rt;
         Name::from_units(alloc, &more),
         Err(NameError::NameBad { at: 256 })
     );
+    assert_eq!(rt; Name::from_vec(more), Err(NameError::NameBad { at: 256 }));
     assert_eq!(rt;
         Name::from_units(alloc, &[]),
         Err(NameError::NameBad { at: 0 })

@@ -3,20 +3,26 @@ use Rattle.std.proofs.Common.{◌≡◌, ◌<◌, ◌≤◌, ◌+◌, ℕ, true,
 use Rattle.std.specs.Prelude.{count_by}
 use Rattle.std.specs.List.{list_all, slice_split}
 use Rattle.std.proofs.lemmas.Bool.Decides.{nat_tests}
-use Rattle.std.proofs.lemmas.Grind.{take-set_at}
-use Rattle.std.proofs.lemmas.List.{take_more}
 use Rattle.std.proofs.lemmas.List.Folds.{list_all_at}
+use Rattle.std.proofs.lemmas.List.Sums.{AllPass-from_list_all}
 use Rattle.std.proofs.lemmas.List.Splits.{length-slice_split}
-use Rattle.script_lang.specs.Grammar.{is_component, is_path}
+use Rattle.frs_base.specs.Names.{IsName, is_barred}
+use Rattle.script_lang.specs.Grammar.{is_component, is_path, is_path_byte}
 use Rattle.script_lang.specs.Reading.{path_in}
 
--- one more unit of a component
-pub unit_more : (units part : List ℕ) (at unit : ℕ) → take at units ≡ take at part → at < length units → at < length part → unit ≡ get_or part at 0 → take (at + 1) (set units at unit) ≡ take (at + 1) part
-unit_more units part at unit so_far in_units in_part is =
-    take-set_at units at (at + 1) unit (omega arith) in_units
-    ∙ ap (λ xs. xs ++ unit ∷ []) so_far
-    ∙ ap (λ x. take at part ++ x ∷ []) is
-    ∙ sym (take_more part at 0 in_part)
+-- a byte of a path stands in a name
+path_bytes_stand : (b : ℕ) → is_path_byte b ≡ true → is_barred b ≡ false
+path_bytes_stand b is = grind (arith, nat_tests, is)
+
+-- a component is a name
+pub component_is_name : (part : List ℕ) → is_component part ≡ true → IsName part
+component_is_name part is =
+    let all : list_all is_path_byte part ≡ true = grind (arith, nat_tests, is) in
+    record {
+      some = grind (arith, nat_tests, is);
+      within = grind (arith, nat_tests, is);
+      clean = λ k d inside. path_bytes_stand (get_or part k d) (AllPass-from_list_all is_path_byte part all k d inside);
+    }
 
 -- ---- components
 

@@ -1,5 +1,5 @@
 // Paths.
-ghost use Rattle.std.specs.Prelude.{◌==◌, ◌≡◌, IfErr, IfOk, count_by, length, true};
+ghost use Rattle.std.specs.Prelude.{◌==◌, ◌≡◌, IfErr, IfOk, count_by, true};
 ghost use Rattle.std.specs.List.{list_all};
 ghost use Rattle.script_lang.specs.Grammar.{is_component, is_path_byte};
 ghost use Rattle.script_lang.specs.Reading.{Reads, path_in};
@@ -27,17 +27,17 @@ fn is_component(part: &str) -> bool
     0 < part.len() && part.len() <= CHARACTERS && has_path_bytes(part)
 }
 
-/// The name of a component, whose units are written to `units` first.
-fn name_of(alloc: Global, part: &str, units: &mut [u16]) -> Result<Name, RowError>
-    requires part { is_component part.now ≡ true }
-    requires room { length units.old ≡ 255 }
+/// The name of a component.
+fn name_of(alloc: Global, part: &str) -> Result<Name, RowError>
+    requires { is_component part.now ≡ true }
     ensures name { IfOk result (λ name. name ≡ part.now) }
     ensures memory { IfErr result (λ e. e ≡ RowError.Memory) }
 {
-    for (at, byte) in part.as_bytes().iter().enumerate() {
-        units[at] = u16::from(*byte);
+    let mut units = Vec::with_capacity(alloc, part.len())?;
+    for byte in part.as_bytes() {
+        units.push(u16::from(*byte))?;
     }
-    match Name::from_units(alloc, &units[..part.len()]) {
+    match Name::from_vec(units) {
         Ok(name) => Ok(name),
         Err(NameError::NameBad { .. }) => unreachable!(),
         Err(NameError::Memory) => Err(RowError::Memory),
@@ -59,12 +59,11 @@ pub fn path_of(alloc: Global, word: &str) -> Result<List<Name>, RowError>
         return Err(RowError::Bad);
     }
     let mut names = Vec::with_capacity(alloc, slashes + 1)?;
-    let mut units = [0; CHARACTERS];
     for part in word.split('/') {
         if !is_component(part) {
             return Err(RowError::Bad);
         }
-        names.push(name_of(alloc, part, &mut units)?)?;
+        names.push(name_of(alloc, part)?)?;
     }
     Ok(List::of(names))
 }

@@ -1,11 +1,13 @@
-use Rattle.std.proofs.Common.{◌<◌, ◌∙◌, length, get_or, ap, arith}
-use Rattle.std.proofs.lemmas.Bool.Decides.{nat_tests}
-use Rattle.script_lang.proofs.Paths.{unit_more}
+use Rattle.std.proofs.Common.{◌≡◌, ◌∙◌, length, ap, sym, subst, arith}
+use Rattle.std.proofs.lemmas.List.{take_all}
+use Rattle.frs_base.specs.Names.{IsName}
+use Rattle.frs_base.specs.NameErrors.{IsRefused}
+use Rattle.script_lang.proofs.Paths.{component_is_name}
 use Rattle.script_lang.proofs.path.name_of.Goals as goal
 
-pub loop-at-preserved : goal.loop-at-preserved
-loop-at-preserved c =
-    let within : c.loop-at.at < length c.args.part.now = omega (arith, ap length c.as_bytes-byte-items.ensures.value) in
-    let component = c.requires.part in
-    unit_more c.loop-at.units c.args.part.now c.loop-at.at c.from.result c.loop-at.invariant (grind (arith, nat_tests, c.requires.room)) within
-    (c.from.ensures ∙ ap (λ part. get_or part c.loop-at.at 0) c.as_bytes-byte-items.ensures.value)
+pub unreachable-requires : goal.unreachable-requires
+unreachable-requires c =
+    let name = component_is_name c.args.part.now c.requires in
+    let whole = c.loop-byte.invariant ∙ take_all c.loop-byte.byte-index c.args.part.now (omega (arith, c.loop-byte-test.false, ap length c.as_bytes-byte-items.ensures.value)) in
+    let refused = subst (λ e. IsRefused e c.loop-byte.units.items) c.in-Err-NameBad.field-0-is c.in-Err-NameBad.ensures.refused in
+    refused.0 (subst IsName (sym whole) name)
