@@ -1,0 +1,102 @@
+#!/usr/bin/env python3
+"""Runs random scripts through the model and through dfsr, and stops at the first that differs.
+
+Usage: check/compare.py [COUNT [FIRST]], COUNT scripts (2000) from the seed FIRST (0) on. The program is
+built first where it has to be. A script that differs is kept, and its name is printed.
+"""
+import pathlib
+import random
+import subprocess
+import sys
+import tempfile
+
+from model import run
+
+TOP = pathlib.Path(__file__).resolve().parent.parent
+PROGRAM = TOP / "crates/dfsr/out/dfsr"
+COMPONENTS = ["a", "A", "b", "B", "c", "z", "Z", "a!", "~", "ab", "aB", "x" * 255, "!"]
+TEXTS = ["", "hi", " two  words ", "x" * 30, "\u00e9\u4e2d", "\r", "\0"]
+LENGTHS = [0, 1, 250, 251, 252, 1_048_576, 1_048_577, 4_294_967_295]
+KINDS = "put fill mkdir mkdir move move remove remove consume consume consume change change".split()
+KINDS += "pull pull pull show tree count member comment".split()
+FLAWS = ["  ", " ", "\t", "\r", "0", "+", "-", "/", "\\", "#", "\u00e9", "x" * 256, "a/" * 64, "2305843009213693952"]
+
+
+class Writer:
+    """Writes a random script: a few members, few names, so that paths often meet."""
+
+    def __init__(self, seed):
+        self.random = random.Random(seed)
+        self.names = ["a", "b", "c", "dd", "e", "zz"][: self.random.randint(1, 6)]
+        self.depths = self.random.choice([[1], [1, 1, 2], [1, 2, 2, 3], [1, 2, 3, 4]])
+        self.components = self.random.choice([COMPONENTS, COMPONENTS[:3], COMPONENTS[3:7]])
+        self.latest = self.random.choice([5, 100, 2**61 - 1])
+        self.members = 0
+
+    def path(self):
+        depth = self.random.choice(self.depths)
+        return "/".join(self.random.choice(self.components) for _ in range(depth))
+
+    def member(self, name):
+        self.members += 1
+        return f"member {name} {self.random.choice(['primary', 'plain'])}"
+
+    def row(self):
+        pick, kind = self.random.choice, self.random.choice(KINDS)
+        name, moment = pick(self.names), self.random.randint(0, self.latest)
+        if kind == "put":
+            return f"put {name} {self.path()} {pick(TEXTS)}"
+        if kind == "fill":
+            return f"fill {name} {self.path()} {pick(LENGTHS) if self.random.random() < 0.1 else 7}"
+        if kind in ("mkdir", "remove"):
+            return f"{kind} {name} {self.path()}"
+        if kind == "move":
+            path = self.path()
+            return f"move {name} {path} {path if self.random.random() < 0.1 else self.path()}"
+        if kind == "consume":
+            return f"consume {name} {moment}"
+        if kind == "change":
+            return f"change {name} {self.path()} {moment}"
+        if kind == "pull":
+            return f"pull {name} {pick(self.names)}"
+        if kind == "member":
+            few = self.members < 9 and self.random.random() < 0.15
+            return self.member(name) if few else f"count {name}"
+        if kind == "comment":
+            return pick(["", "# nothing"])
+        return f"{kind} {name}"
+
+    def script(self):
+        members = [self.member(name) for name in self.names if self.random.random() < 0.85]
+        rows = members + [self.row() for _ in range(self.random.randint(1, 120))]
+        rows += [f"{kind} {name}" for name in self.names for kind in ("show", "tree", "count")]
+        text = "\n".join(rows) + self.random.choice(["", "\n"])
+        if self.random.random() < 0.1:
+            at = self.random.randrange(len(text) + 1)
+            text = text[:at] + self.random.choice(FLAWS) + text[at + self.random.randint(0, 2) :]
+        script = text.encode()
+        return script + b"\xff" if self.random.random() < 0.01 else script
+
+
+def differs(seed):
+    """Whether the model and the program differ; the script is kept then."""
+    script = Writer(seed).script()
+    status, text = run(script)
+    ended = subprocess.run([PROGRAM, "script"], input=script, capture_output=True)
+    if (ended.returncode, ended.stdout) == (status, text.encode()):
+        return False
+    with tempfile.NamedTemporaryFile(delete=False, suffix=".script") as kept:
+        kept.write(script)
+    print(f"seed {seed}: the model ends with {status}, the program with {ended.returncode}: {kept.name}")
+    return True
+
+
+def main():
+    count, first = (int(word) for word in (sys.argv[1:] + ["2000", "0"][len(sys.argv) - 1 :]))
+    subprocess.run([TOP / "dfsr", "--version"], check=True, stdout=subprocess.DEVNULL)
+    if any(differs(seed) for seed in range(first, first + count)):
+        sys.exit(1)
+    print(f"{count} scripts, from seed {first} on: the program writes what the model writes")
+
+
+main()
