@@ -194,17 +194,22 @@ impl Engine {
     {
         if self.place_of(name.as_slice()).is_some() {
             let text = exists_text(alloc, name.as_slice())?;
-            self.number(alloc, Bytes::of(Vec::new(alloc)), MemberKind::Plain)?;
+            self.take_number(alloc, Bytes::of(Vec::new(alloc)), MemberKind::Plain)?;
             return Ok(text);
         }
         let text = ok_text(alloc)?;
-        self.number(alloc, copy_bytes(alloc, name)?, kind)?;
+        self.take_number(alloc, copy_bytes(alloc, name)?, kind)?;
         Ok(text)
     }
 
     /// Takes the next number for a member of this name and kind. No line can name it where the name is
     /// empty.
-    fn number(&mut self, alloc: Global, name: Bytes, kind: MemberKind) -> Result<(), AllocError>
+    fn take_number(
+        &mut self,
+        alloc: Global,
+        name: Bytes,
+        kind: MemberKind,
+    ) -> Result<(), AllocError>
         requires name { is_name_or_empty name ≡ true }
         requires scene { HasScene self.old }
         ensures ok { (s : Scene) → Stands self.old s → IfOk result (λ done. Stands self.new (with_name s name kind)) }

@@ -21,7 +21,7 @@ returns-then-is_some-clause-ok c = λ s stands.
     let said = subst (λ n. string_bytes c.in_ok-text.text ≡ refused_text (Exists n)) c.as_slice-then-is_some.ensures c.in_ok-text.ensures in (
       without_name s,
       subst (λ t. Does s (lines.Member name kind) t (without_name s)) (sym said) (does_refuse s (lines.Member name kind) (Exists name) (member_known s name kind known)),
-      subst (λ n. Stands c.number.new.self (with_name s n Plain)) (c.of.ensures ∙ c.new.ensures.items) (c.in_ok-number.ensures.ok s stands),
+      subst (λ n. Stands c.take_number.new.self (with_name s n Plain)) (c.of.ensures ∙ c.new.ensures.items) (c.in_ok-take_number.ensures.ok s stands),
     )
 
 pub returns-clause-ok : goal.returns-clause-ok
@@ -33,5 +33,5 @@ returns-clause-ok c = λ s stands.
     let free = subst (λ n. is_some (place_of s.names n) ≡ false) c.as_slice.ensures (ap is_some held ∙ sym c.is_some.ensures ∙ c.if-is_some.false) in (
       with_name s name kind,
       subst (λ t. Does s (lines.Member name kind) t (with_name s name kind)) (sym c.in_ok-text-2.ensures) (does_act s (lines.Member name kind) _ (with_name s name kind) (member_new s name kind free) (refl, refl)),
-      subst (λ n. Stands c.number-2.new.self (with_name s n kind)) c.in_ok-copy_bytes.ensures (c.in_ok-number-2.ensures.ok s stands),
+      subst (λ n. Stands c.take_number-2.new.self (with_name s n kind)) c.in_ok-copy_bytes.ensures (c.in_ok-take_number-2.ensures.ok s stands),
     )

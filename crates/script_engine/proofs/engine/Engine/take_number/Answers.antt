@@ -4,7 +4,7 @@ use Rattle.folder_core.specs.Machine.{fresh_machine}
 use Rattle.script_engine.specs.declared.engine.Engine.{Engine}
 use Rattle.script_engine.specs.declared.names.MemberName.{MemberName}
 use Rattle.script_engine.proofs.Speaking.{stands_more}
-use Rattle.script_engine.proofs.engine.Engine.number.Goals as goal
+use Rattle.script_engine.proofs.engine.Engine.take_number.Goals as goal
 
 pub returns-clause-ok : goal.returns-clause-ok
 returns-clause-ok c = λ s stands.
