@@ -26,7 +26,7 @@ use Rattle.script_engine.specs.declared.consumed.Consumed.{Consumed}
 use Rattle.script_engine.specs.Consuming.{ConsumesAll}
 use Rattle.script_engine.specs.Pulling.{Pulls}
 use Rattle.script_engine.specs.Trees.{tree_text}
-use Rattle.script_engine.specs.Text.{Acts, Changes, Consumes, Counts, IsRefused, Operates, PrintsTree, Run, Shows, count_text, filled, last_text, text_unless, usn_text}
+use Rattle.script_engine.specs.Text.{Acts, Changes, Consumes, Counts, IsRefused, Operates, PrintsTree, Run, Shows, count_text, filled, last_text, left_by, text_unless, usn_text}
 use Rattle.script_engine.specs.Scripts.{LinesPrintOneText, OneText, RunsPrintOneText}
 use Rattle.script_engine.proofs.Once.{consumes_all_one, next_by, next_one, pulls_one}
 use Rattle.script_engine.proofs.Sorting.{one_tree}
@@ -136,7 +136,7 @@ acts_one s (lines.Count name) a b m n h form (d, at, shows, is) (d', at', shows'
 pub does_one : LinesPrintOneText
 does_one s line a b m n h form does does' = by (first_refusal s line) does does'
   where
-    by : (o : Option Refusal) → MatchOption o (Acts s line a m) (λ why. IsRefused s why a m) → MatchOption o (Acts s line b n) (λ why. IsRefused s why b n) → Alike a b m n
+    by : (o : Option Refusal) → MatchOption o (Acts s line a m) (λ why. IsRefused (left_by s line) why a m) → MatchOption o (Acts s line b n) (λ why. IsRefused (left_by s line) why b n) → Alike a b m n
     by None acts acts' = acts_one s line a b m n h form acts acts'
     by (Some why) (said, is) (said', is') = (said ∙ sym said', is ∙ sym is')
 

@@ -25,7 +25,7 @@ use Rattle.script_engine.specs.declared.refusal.Refusal.{Refusal}
 use Rattle.script_engine.specs.declared.refusal.Refusal.TheVariants.{Itself, Local, Unknown}
 use Rattle.script_engine.specs.Refusals.{first_refusal, refused_text, unless_named}
 use Rattle.script_engine.specs.Trees.{IsTreeOf, Row, tree_text}
-use Rattle.script_engine.specs.Text.{Acts, Changes, Consumes, Does, IsRefused, Operates, count_text, filled, last_text, text_unless, usn_text}
+use Rattle.script_engine.specs.Text.{Acts, Changes, Consumes, Does, IsRefused, Operates, count_text, filled, last_text, left_by, text_unless, usn_text}
 use Rattle.script_engine.specs.Scripts.{EveryLinePrints}
 use Rattle.script_engine.proofs.Going.{consumes_all_some, consumes_next_some, pulls_some}
 use Rattle.script_engine.proofs.Passing.{passes_local}
@@ -146,8 +146,10 @@ pub line_prints : (s : Scene) (line : Line) → IsSoundScene s → IsLine line �
 line_prints s line h form = by (first_refusal s line) refl
   where
     by : (o : Option Refusal) → first_refusal s line ≡ o → Leads (Does s line)
-    by None e = let (text, new, acts) = acts_some s line h form e in (text, new, subst (λ o. MatchOption o (Acts s line text new) (λ why. IsRefused s why text new)) (sym e) acts)
-    by (Some why) e = (refused_text why, s, subst (λ o. MatchOption o (Acts s line (refused_text why) s) (λ why'. IsRefused s why' (refused_text why) s)) (sym e) (refl, refl))
+    by None e = let (text, new, acts) = acts_some s line h form e in (text, new, subst (λ o. MatchOption o (Acts s line text new) (λ why. IsRefused (left_by s line) why text new)) (sym e) acts)
+    by (Some why) e =
+        let new = left_by s line in
+        (refused_text why, new, subst (λ o. MatchOption o (Acts s line (refused_text why) new) (λ why'. IsRefused new why' (refused_text why) new)) (sym e) (refl, refl))
 
 -- in every scene that a run reaches
 pub every_line : EveryLinePrints

@@ -28,7 +28,7 @@ use Rattle.script_engine.specs.Sound.{AreLists, IsNobodys, IsSoundScene}
 use Rattle.script_engine.specs.declared.refusal.Refusal.{Refusal}
 use Rattle.script_engine.specs.declared.refusal.Refusal.TheVariants.{Local}
 use Rattle.script_engine.specs.Refusals.{first_refusal}
-use Rattle.script_engine.specs.Text.{Acts, Changes, Does, IsRefused, Operates, filled, last_text, text_unless, usn_text}
+use Rattle.script_engine.specs.Text.{Acts, Changes, Does, IsRefused, Operates, filled, last_text, left_by, text_unless, usn_text}
 use Rattle.script_engine.specs.declared.consumed.Consumed.{Consumed}
 use Rattle.script_engine.specs.Consuming.{ConsumesAll}
 use Rattle.script_engine.specs.Scripts.{FreshScenesAreSound, LinesKeepScenesSound, RunsKeepScenesSound}
@@ -126,10 +126,10 @@ fresh_scene_sound = record {
 -- ---- lines
 
 -- what a line does: it is refused or it acts
-pub acts_or_not : (s : Scene) (line : Line) (text : List ℕ) (new : Scene) → Does s line text new → Acts s line text new ⊎ (new ≡ s)
+pub acts_or_not : (s : Scene) (line : Line) (text : List ℕ) (new : Scene) → Does s line text new → Acts s line text new ⊎ (new ≡ left_by s line)
 acts_or_not s line text new does = by (first_refusal s line) does
   where
-    by : (o : Option Refusal) → MatchOption o (Acts s line text new) (λ why. IsRefused s why text new) → Acts s line text new ⊎ (new ≡ s)
+    by : (o : Option Refusal) → MatchOption o (Acts s line text new) (λ why. IsRefused (left_by s line) why text new) → Acts s line text new ⊎ (new ≡ left_by s line)
     by None acts = inl acts
     by (Some why) (said, same) = inr same
 
@@ -177,8 +177,23 @@ acts_follow s P (lines.Show name) text new h form f (d, named, shows, is) = subs
 acts_follow s P (lines.Tree name) text new h form f (d, named, shows, is) = subst P (sym is) f.same
 acts_follow s P (lines.Count name) text new h form f (d, named, shows, is) = subst P (sym is) f.same
 
+-- what a refused line leaves follows
+left_follows : (s : Scene) (P : Scene → Type 0) (line : Line) → Follows s P → P (left_by s line)
+left_follows s P (lines.Member name kind) f = f.named [] Plain
+left_follows s P (lines.Put name path bytes) f = f.same
+left_follows s P (lines.Fill name path count) f = f.same
+left_follows s P (lines.Mkdir name path) f = f.same
+left_follows s P (lines.Move name from to) f = f.same
+left_follows s P (lines.Remove name path) f = f.same
+left_follows s P (lines.Consume name moment) f = f.same
+left_follows s P (lines.Change name path moment) f = f.same
+left_follows s P (lines.Pull name other) f = f.same
+left_follows s P (lines.Show name) f = f.same
+left_follows s P (lines.Tree name) f = f.same
+left_follows s P (lines.Count name) f = f.same
+
 pub does_follow : (s : Scene) (P : Scene → Type 0) (line : Line) (text : List ℕ) (new : Scene) → IsSoundScene s → IsLine line → Follows s P → Does s line text new → P new
-does_follow s P line text new h form f does = elim (acts_or_not s line text new does) [ inl acts ↦ acts_follow s P line text new h form f acts | inr is ↦ subst P (sym is) f.same ]
+does_follow s P line text new h form f does = elim (acts_or_not s line text new does) [ inl acts ↦ acts_follow s P line text new h form f acts | inr is ↦ subst P (sym is) (left_follows s P line f) ]
 
 pub line_keeps : LinesKeepScenesSound
 line_keeps s line text new h form does = does_follow s IsSoundScene line text new h form (record {

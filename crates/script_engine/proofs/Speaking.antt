@@ -15,7 +15,6 @@ use Rattle.world_model.proofs.Changing.{at_other, at_same}
 use Rattle.folder_core.specs.Machine.{Machine, fresh_machine}
 use Rattle.folder_core.specs.Replay.{Seen}
 use Rattle.folder_core.specs.Sound.{IsInOrder}
-use Rattle.script_lang.specs.Grammar.{is_member_name}
 use Rattle.script_lang.specs.declared.line.Line.{Line}
 use Rattle.script_lang.specs.declared.line.Line.TheVariants as lines
 use Rattle.script_engine.specs.declared.engine.Engine.{Engine}
@@ -23,14 +22,14 @@ use Rattle.script_engine.specs.declared.names.MemberName.{MemberName}
 use Rattle.script_engine.specs.declared.refusal.Refusal.{Refusal}
 use Rattle.script_engine.specs.declared.refusal.Refusal.TheVariants.{Exists, Itself, Unknown}
 use Rattle.script_engine.specs.Engines.{AtNamed, Stands, machines_of}
-use Rattle.script_engine.specs.Named.{AreNamed}
+use Rattle.script_engine.specs.Named.{AreNamed, is_name_or_empty}
 use Rattle.script_engine.specs.Printed.{printed}
 use Rattle.script_engine.specs.Pulls.{PullEnds}
 use Rattle.script_engine.specs.Refusals.{first_refusal, refused_text, unless_named}
 use Rattle.script_engine.specs.Scene.{IsNamed, Scene, in_world, numbered, place_of, with_name}
 use Rattle.script_engine.specs.Sound.{IsNobodys}
 use Rattle.script_engine.specs.Standing.{MachineStands, MachinesStand, consumed_in}
-use Rattle.script_engine.specs.Text.{Acts, Does, IsRefused}
+use Rattle.script_engine.specs.Text.{Acts, Does, IsRefused, left_by}
 use Rattle.script_engine.proofs.Events.{ok_by}
 use Rattle.script_engine.proofs.Scenes.{sound_with_name}
 use Rattle.script_engine.proofs.Spoken.{does_at}
@@ -39,15 +38,15 @@ use Rattle.script_engine.proofs.Volumes.{fresh_lists}
 
 -- ---- refused, or not
 
-pub does_refuse : (s : Scene) (line : Line) (why : Refusal) → first_refusal s line ≡ Some why → Does s line (refused_text why) s
-does_refuse s line why first = subst (λ f. MatchOption f (Acts s line (refused_text why) s) (λ w. IsRefused s w (refused_text why) s)) (sym first) (refl, refl)
+pub does_refuse : (s : Scene) (line : Line) (why : Refusal) → first_refusal s line ≡ Some why → Does s line (refused_text why) (left_by s line)
+does_refuse s line why first = subst (λ f. MatchOption f (Acts s line (refused_text why) (left_by s line)) (λ w. IsRefused (left_by s line) w (refused_text why) (left_by s line))) (sym first) (refl, refl)
 
 pub does_act : (s : Scene) (line : Line) (text : List ℕ) (new : Scene) → first_refusal s line ≡ None → Acts s line text new → Does s line text new
-does_act s line text new first acts = subst (λ f. MatchOption f (Acts s line text new) (λ w. IsRefused s w text new)) (sym first) acts
+does_act s line text new first acts = subst (λ f. MatchOption f (Acts s line text new) (λ w. IsRefused (left_by s line) w text new)) (sym first) acts
 
-pub refused_said : {E : Type 0} (e : Engine) (s : Scene) (line : Line) (why : Refusal) (r : Result (String Global) E) → Stands e s → first_refusal s line ≡ Some why → IfOk r (λ text. string_bytes text ≡ refused_text why)
+pub refused_said : {E : Type 0} (e : Engine) (s : Scene) (line : Line) (why : Refusal) (r : Result (String Global) E) → Stands e (left_by s line) → first_refusal s line ≡ Some why → IfOk r (λ text. string_bytes text ≡ refused_text why)
     → IfOk r (λ text. (new : Scene) × Does s line (string_bytes text) new × Stands e new)
-refused_said e s line why r h first said = said_of r (refused_text why) (λ t. (new : Scene) × Does s line t new × Stands e new) said (s, does_refuse s line why first, h)
+refused_said e s line why r h first said = said_of r (refused_text why) (λ t. (new : Scene) × Does s line t new × Stands e new) said (left_by s line, does_refuse s line why first, h)
 
 pub acted_said : {E : Type 0} (s : Scene) (line : Line) (r : Result (String Global) E) (text : List ℕ) (new : Scene) (after : Engine) → first_refusal s line ≡ None → IfOk r (λ made. string_bytes made ≡ text) → Acts s line text new → Stands after new
     → IfOk r (λ made. (new : Scene) × Does s line (string_bytes made) new × Stands after new)
@@ -141,11 +140,11 @@ machines_more machines s name kind h order = record {
         (subst (λ j. MachineStands s.world.all ((with_name s name kind).world.at (database_of (j + 1))) (database_of (j + 1)) (fresh_machine kind (database_of (length s.names + 1)) content_set)) same here)
 
 -- an engine with one more member
-pub stands_more : (old new : Engine) (s : Scene) (name : List ℕ) (kind : MemberKind) (m : MemberName) (f : Seen) → Stands old s → is_member_name name ≡ true → new.names.items ≡ old.names.items ++ m ∷ [] → new.folders.items ≡ old.folders.items ++ f ∷ []
+pub stands_more : (old new : Engine) (s : Scene) (name : List ℕ) (kind : MemberKind) (m : MemberName) (f : Seen) → Stands old s → is_name_or_empty name ≡ true → new.names.items ≡ old.names.items ++ m ∷ [] → new.folders.items ≡ old.folders.items ++ f ∷ []
     → m ≡ record { db = database_of (length old.names.items + 1); name = name } → f.machine ≡ fresh_machine kind (database_of (length old.names.items + 1)) content_set → IsInOrder f.machine → Stands new (with_name s name kind)
 stands_more old new s name kind m f h formed names folders named fresh order = record {
   names = names ∙ (λ i. h.names i ++ here i ∷ []) ∙ sym (numbered_push 1 s.names name);
-  formed = subst AreNamed (sym names) (All-push (λ x. is_member_name x.name ≡ true) old.names.items m h.formed (subst (λ (x : MemberName). is_member_name x.name ≡ true) (sym named) formed));
+  formed = subst AreNamed (sym names) (All-push (λ x. is_name_or_empty x.name ≡ true) old.names.items m h.formed (subst (λ (x : MemberName). is_name_or_empty x.name ≡ true) (sym named) formed));
   machines = subst (λ ms. MachinesStand ms (with_name s name kind)) (sym machines) (machines_more (machines_of old) s name kind h.machines (subst IsInOrder machine order));
 }
   where
@@ -171,18 +170,18 @@ stands_more old new s name kind m f h formed names folders named fresh order = r
 
 -- ---- lines at a member
 
-pub named_line : {E : Type 0} (s : Scene) (line given : Line) (name : List ℕ) (C : ℕ → List ℕ → Scene → Type 0) (r : Result (String Global) E) (after : Engine) → line ≡ given → first_refusal s line ≡ unless_named s name
+pub named_line : {E : Type 0} (s : Scene) (line given : Line) (name : List ℕ) (C : ℕ → List ℕ → Scene → Type 0) (r : Result (String Global) E) (after : Engine) → line ≡ given → first_refusal s line ≡ unless_named s name → left_by s line ≡ s
     → ((d : ℕ) (text : List ℕ) (new : Scene) → IsNamed s name d → C d text new → Acts s line text new) → IfOk r (λ text. (new : Scene) × AtNamed s name C (string_bytes text) new × Stands after new)
     → IfOk r (λ text. (new : Scene) × Does s given (string_bytes text) new × Stands after new)
-named_line s line given name C r after same first acts said =
+named_line s line given name C r after same first left acts said =
     subst (λ l. IfOk r (λ text. (new : Scene) × Does s l (string_bytes text) new × Stands after new)) same
     (ok_by r (λ text. (new : Scene) × AtNamed s name C (string_bytes text) new × Stands after new) (λ text. (new : Scene) × Does s line (string_bytes text) new × Stands after new) said
-    (λ text (new, comes, stands). (new, does_at s line name C (string_bytes text) new first (λ d named c. acts d (string_bytes text) new named c) comes, stands)))
+    (λ text (new, comes, stands). (new, does_at s line name C (string_bytes text) new first left (λ d named c. acts d (string_bytes text) new named c) comes, stands)))
 
-pub printed_line : {E : Type 0} (s : Scene) (line given : Line) (name : List ℕ) (C : ℕ → List ℕ → Scene → Type 0) (r : Result (String Global) E) (after : Engine) → line ≡ given → first_refusal s line ≡ unless_named s name
+pub printed_line : {E : Type 0} (s : Scene) (line given : Line) (name : List ℕ) (C : ℕ → List ℕ → Scene → Type 0) (r : Result (String Global) E) (after : Engine) → line ≡ given → first_refusal s line ≡ unless_named s name → left_by s line ≡ s
     → ((d : ℕ) (text : List ℕ) → IsNamed s name d → C d text s → Acts s line text s) → Stands after s → IfOk r (λ text. AtNamed s name C (string_bytes text) s)
     → IfOk r (λ text. (new : Scene) × Does s given (string_bytes text) new × Stands after new)
-printed_line s line given name C r after same first acts stands said =
+printed_line s line given name C r after same first left acts stands said =
     subst (λ l. IfOk r (λ text. (new : Scene) × Does s l (string_bytes text) new × Stands after new)) same
     (ok_by r (λ text. AtNamed s name C (string_bytes text) s) (λ text. (new : Scene) × Does s line (string_bytes text) new × Stands after new) said
-    (λ text comes. (s, does_at s line name C (string_bytes text) s first (λ d named c. acts d (string_bytes text) named c) comes, stands)))
+    (λ text comes. (s, does_at s line name C (string_bytes text) s first left (λ d named c. acts d (string_bytes text) named c) comes, stands)))

@@ -24,7 +24,7 @@ use Rattle.script_engine.specs.Engines.{AtNamed, ConsumedAll, ConsumedNext, Oper
 use Rattle.script_engine.specs.Refusals.{first_refusal, refused_text, unless_named}
 use Rattle.script_engine.specs.Scene.{IsNamed, Scene, in_world, numbered, place_of}
 use Rattle.script_engine.specs.Standing.{MachineStands}
-use Rattle.script_engine.specs.Text.{Acts, Changes, Consumes, Counts, Does, IsRefused, Operates, PrintsTree, Shows, count_text, filled, last_text, records_text, usn_text, vector_text}
+use Rattle.script_engine.specs.Text.{Acts, Changes, Consumes, Counts, Does, IsRefused, Operates, PrintsTree, Shows, count_text, filled, last_text, left_by, records_text, usn_text, vector_text}
 use Rattle.script_engine.specs.Trees.{IsTreeOf, Row, tree_text}
 use Rattle.script_engine.specs.Widening.{IsVectorOf}
 use Rattle.script_engine.proofs.Consumption.{maps_are}
@@ -86,17 +86,17 @@ known_printed e s name C (Ok text) at h some said = at_some s name C at (string_
 known_printed e s name C (Err why) at h some said = tt
 
 -- what is refused or comes of a line is what it does
-pub does_at : (s : Scene) (line : Line) (name : List ℕ) (C : ℕ → List ℕ → Scene → Type 0) (text : List ℕ) (new : Scene) → first_refusal s line ≡ unless_named s name
+pub does_at : (s : Scene) (line : Line) (name : List ℕ) (C : ℕ → List ℕ → Scene → Type 0) (text : List ℕ) (new : Scene) → first_refusal s line ≡ unless_named s name → left_by s line ≡ s
     → ((d : ℕ) → IsNamed s name d → C d text new → Acts s line text new) → AtNamed s name C text new → Does s line text new
-does_at s line name C text new first acts comes = by (place_of s.names name) refl comes
+does_at s line name C text new first left acts comes = by (place_of s.names name) refl comes
   where
     by : (place : Option ℕ) → place_of s.names name ≡ place → MatchOption place (IsRefused s (Unknown name) text new) (λ k. C (database_of (k + 1)) text new) → Does s line text new
-    by None e refused =
+    by None e (said, same) =
         let why : first_refusal s line ≡ Some (Unknown name) = first ∙ ap (λ p. cond (is_some p) None (Some (Unknown name))) e in
-        subst (λ f. MatchOption f (Acts s line text new) (λ w. IsRefused s w text new)) (sym why) refused
+        subst (λ f. MatchOption f (Acts s line text new) (λ w. IsRefused (left_by s line) w text new)) (sym why) (said, same ∙ sym left)
     by (Some k) e c =
         let why : first_refusal s line ≡ None = first ∙ ap (λ p. cond (is_some p) None (Some (Unknown name))) e in
-        subst (λ f. MatchOption f (Acts s line text new) (λ w. IsRefused s w text new)) (sym why) (acts (database_of (k + 1)) (k, e, refl) c)
+        subst (λ f. MatchOption f (Acts s line text new) (λ w. IsRefused (left_by s line) w text new)) (sym why) (acts (database_of (k + 1)) (k, e, refl) c)
 
 -- ---- local operations
 

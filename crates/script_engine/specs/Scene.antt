@@ -6,7 +6,7 @@ use Rattle.frs_base.specs.declared.kind.MemberKind.TheVariants.{Plain}
 use Rattle.world_model.specs.World.{World, fresh_world, with_member}
 use Rattle.script_engine.specs.declared.names.MemberName.{MemberName}
 
--- the members' names, in the order of their lines, and the world: the k-th member, from 1, has the k-th database
+-- what each `member` line named, in order, and nothing where it was refused; and the world: the k-th line, from 1, has the k-th database
 pub record Scene : Type 0 where
   pub names : List (List ℕ)
   pub world : World
@@ -41,3 +41,7 @@ abbrev pub with_name : Scene → List ℕ → MemberKind → Scene
 with_name s name kind =
     let d = database_of (length s.names + 1) in
     record { names = s.names ++ name ∷ []; world = with_member s.world d (record (s.world.at d) { kind = kind }) }
+
+-- a refused `member` line takes its number: of a member that no line can name
+abbrev pub without_name : Scene → Scene
+without_name s = with_name s [] Plain

@@ -18,7 +18,7 @@ use Rattle.script_engine.specs.declared.consumed.Consumed.{Consumed}
 use Rattle.script_engine.specs.declared.consumed.Consumed.TheVariants.{Made, Skipped}
 use Rattle.script_engine.specs.declared.refusal.Refusal.{Refusal}
 use Rattle.script_engine.specs.declared.refusal.Refusal.TheVariants.{Local}
-use Rattle.script_engine.specs.Scene.{Scene, IsNamed, fresh_scene, in_world, members_of, with_name}
+use Rattle.script_engine.specs.Scene.{Scene, IsNamed, fresh_scene, in_world, members_of, with_name, without_name}
 use Rattle.script_engine.specs.Refusals.{first_refusal, refused_text}
 use Rattle.script_engine.specs.Widening.{IsVectorOf}
 use Rattle.script_engine.specs.Consuming.{ConsumesAll, ConsumesNext}
@@ -71,7 +71,7 @@ filled (suc n) = filled n ++ (n % 251) ∷ []
 
 -- ---- what a line does
 
--- a refused line prints why, and changes nothing
+-- what is refused prints why, and changes nothing
 abbrev pub IsRefused : Scene → Refusal → List ℕ → Scene → Type 0
 IsRefused s why text new = (text ≡ refused_text why) × (new ≡ s)
 
@@ -129,9 +129,24 @@ Acts s (lines.Show name) text new = (d : ℕ) × IsNamed s name d × Shows s d t
 Acts s (lines.Tree name) text new = (d : ℕ) × IsNamed s name d × PrintsTree s d text × (new ≡ s)
 Acts s (lines.Count name) text new = (d : ℕ) × IsNamed s name d × Counts s d text × (new ≡ s)
 
--- a line prints its first refusal and changes nothing, or acts
+-- what a refused line leaves: everything as it was, but that a `member` line took its number
+abbrev pub left_by : Scene → Line → Scene
+left_by s (lines.Member name kind) = without_name s
+left_by s (lines.Put name path bytes) = s
+left_by s (lines.Fill name path count) = s
+left_by s (lines.Mkdir name path) = s
+left_by s (lines.Move name from to) = s
+left_by s (lines.Remove name path) = s
+left_by s (lines.Consume name moment) = s
+left_by s (lines.Change name path moment) = s
+left_by s (lines.Pull name other) = s
+left_by s (lines.Show name) = s
+left_by s (lines.Tree name) = s
+left_by s (lines.Count name) = s
+
+-- a line prints its first refusal and leaves what a refused line leaves, or acts
 abbrev pub Does : Scene → Line → List ℕ → Scene → Type 0
-Does s line text new = MatchOption (first_refusal s line) (Acts s line text new) (λ why. IsRefused s why text new)
+Does s line text new = MatchOption (first_refusal s line) (Acts s line text new) (λ why. (text ≡ refused_text why) × (new ≡ left_by s line))
 
 -- ---- runs
 

@@ -4,7 +4,7 @@ ghost use Rattle.frs_base.specs.Identifiers.{database_of};
 ghost use Rattle.folder_core.specs.Replay.{IsEarlyEvent};
 ghost use Rattle.folder_core.specs.Replay as replay;
 ghost use Rattle.folder_core.specs.Sound.{IsSound};
-ghost use Rattle.script_engine.specs.Scene.{Scene, fresh_scene, in_world};
+ghost use Rattle.script_engine.specs.Scene.{Scene, fresh_scene, in_world, with_name};
 
 mod journal;
 mod operations;
@@ -24,7 +24,8 @@ use vol_state::{LocalOp, Refused};
 /// Who the events of lines come from.
 const SCRIPT: u64 = 0;
 
-/// The members of a script: the k-th has the k-th database, counted from 1.
+/// The members of a script: the k-th `member` line has the k-th database, counted from 1. A refused one
+/// has it too, for a member that no line can name.
 #[derive(Drop)]
 pub struct Engine {
     names: ReservedVec<MemberName>,
@@ -36,6 +37,7 @@ impl Engine {
     ghost use Rattle.script_lang.specs.Grammar.{IsLine, is_member_name};
     ghost use Rattle.script_lang.specs.declared.line.Line.TheVariants as Line;
     ghost use Rattle.world_model.specs.World.{World};
+    ghost use Rattle.script_engine.specs.Named.{is_name_or_empty};
     ghost use Rattle.script_engine.specs.Text.{Does};
     ghost use Rattle.script_engine.specs.Engines.{Answered, ConsumedAll, ConsumedNext, HasRoom, HasScene, IsWithin, Operated, Stands, consumed_by_all, count_of, made_by_all};
 
@@ -183,7 +185,7 @@ impl Engine {
         }
     }
 
-    /// A new member of this name and kind.
+    /// A new member of this name and kind. A refused line takes its number too.
     fn add(&mut self, alloc: Global, name: &Bytes, kind: MemberKind) -> Result<String, AllocError>
         requires name { is_member_name name.now ≡ true }
         requires scene { HasScene self.old }
@@ -191,10 +193,28 @@ impl Engine {
         ensures made { OnOk result (made_by_all self.new ≤ made_by_all self.old + 1) }
     {
         if self.place_of(name.as_slice()).is_some() {
-            return exists_text(alloc, name.as_slice());
+            let text = exists_text(alloc, name.as_slice())?;
+            self.take_number(alloc, Bytes::of(Vec::new(alloc)), MemberKind::Plain)?;
+            return Ok(text);
         }
         let text = ok_text(alloc)?;
-        let name = copy_bytes(alloc, name)?;
+        self.take_number(alloc, copy_bytes(alloc, name)?, kind)?;
+        Ok(text)
+    }
+
+    /// Takes the next number for a member of this name and kind. No line can name it where the name is
+    /// empty.
+    fn take_number(
+        &mut self,
+        alloc: Global,
+        name: Bytes,
+        kind: MemberKind,
+    ) -> Result<(), AllocError>
+        requires name { is_name_or_empty name ≡ true }
+        requires scene { HasScene self.old }
+        ensures ok { (s : Scene) → Stands self.old s → IfOk result (λ done. Stands self.new (with_name s name kind)) }
+        ensures made { OnOk result (made_by_all self.new ≤ made_by_all self.old + 1) }
+    {
         self.names.reserve_one(alloc)?;
         self.folders.reserve_one(alloc)?;
         let db = database_of(self.names.as_slice().len() as u64 + 1);
@@ -202,7 +222,7 @@ impl Engine {
         let _ = folder.book();
         self.names.push(MemberName { db, name });
         self.folders.push(folder);
-        Ok(text)
+        Ok(())
     }
 
     /// Does a line, and gives what it prints.
@@ -246,3 +266,6 @@ impl Engine {
         }
     }
 }
+
+#[cfg(test)]
+mod tests;

@@ -2,7 +2,8 @@
 use frs_base::Bytes;
 use vol_state::Refused;
 
-/// Why a line is refused. Such a line changes nothing, but for what its earlier events did.
+/// Why a line is refused. Such a line changes nothing, but for what its earlier events did, and that a
+/// `member` line took its number.
 #[derive(Debug, Drop, PartialEq, Eq)]
 pub enum Refusal {
     /// No member has this name.

@@ -12,43 +12,43 @@ pub returns-in_ok-operation-in-Put-clause-ok : goal.returns-in_ok-operation-in-P
 returns-in_ok-operation-in-Put-clause-ok c = λ s stands.
     let name = c.as_slice.result.now in
     named_line s (lines.Put name c.in-Put.path c.in-Put.text) c.args.line.now name (λ d said after. Operates s d c.in_ok-operation-in-Put.operation said after) c.local.result c.local.new.self
-    (ap (λ n. lines.Put n c.in-Put.path c.in-Put.text) c.as_slice.ensures ∙ sym c.in-Put.is) refl (λ d text new named o. (d, named, subst (λ x. Operates s d x text new) c.in_ok-operation-in-Put.ensures o)) (c.local.ensures.ok s stands)
+    (ap (λ n. lines.Put n c.in-Put.path c.in-Put.text) c.as_slice.ensures ∙ sym c.in-Put.is) refl refl (λ d text new named o. (d, named, subst (λ x. Operates s d x text new) c.in_ok-operation-in-Put.ensures o)) (c.local.ensures.ok s stands)
 
 pub returns-in-Fill-clause-ok : goal.returns-in-Fill-clause-ok
 returns-in-Fill-clause-ok c = λ s stands.
     let name = c.as_slice-in-Fill.result.now in
     named_line s (lines.Fill name c.in-Fill.path c.in-Fill.length) c.args.line.now name (λ d said after. Operates s d (op.Put c.in-Fill.path (filled c.in-Fill.length)) said after) c.fill.result c.fill.new.self
-    (ap (λ n. lines.Fill n c.in-Fill.path c.in-Fill.length) c.as_slice-in-Fill.ensures ∙ sym c.in-Fill.is) refl (λ d text new named o. (d, named, o)) (c.fill.ensures.ok s stands)
+    (ap (λ n. lines.Fill n c.in-Fill.path c.in-Fill.length) c.as_slice-in-Fill.ensures ∙ sym c.in-Fill.is) refl refl (λ d text new named o. (d, named, o)) (c.fill.ensures.ok s stands)
 
 pub returns-in_ok-operation-in-Mkdir-clause-ok : goal.returns-in_ok-operation-in-Mkdir-clause-ok
 returns-in_ok-operation-in-Mkdir-clause-ok c = λ s stands.
     let name = c.as_slice-in-Mkdir.result.now in
     named_line s (lines.Mkdir name c.in-Mkdir.path) c.args.line.now name (λ d said after. Operates s d c.in_ok-operation-in-Mkdir.operation said after) c.local-in-Mkdir.result c.local-in-Mkdir.new.self
-    (ap (λ n. lines.Mkdir n c.in-Mkdir.path) c.as_slice-in-Mkdir.ensures ∙ sym c.in-Mkdir.is) refl (λ d text new named o. (d, named, subst (λ x. Operates s d x text new) c.in_ok-operation-in-Mkdir.ensures o)) (c.local-in-Mkdir.ensures.ok s stands)
+    (ap (λ n. lines.Mkdir n c.in-Mkdir.path) c.as_slice-in-Mkdir.ensures ∙ sym c.in-Mkdir.is) refl refl (λ d text new named o. (d, named, subst (λ x. Operates s d x text new) c.in_ok-operation-in-Mkdir.ensures o)) (c.local-in-Mkdir.ensures.ok s stands)
 
 pub returns-in_ok-operation-in-Move-clause-ok : goal.returns-in_ok-operation-in-Move-clause-ok
 returns-in_ok-operation-in-Move-clause-ok c = λ s stands.
     let name = c.as_slice-in-Move.result.now in
     named_line s (lines.Move name c.in-Move.from c.in-Move.to) c.args.line.now name (λ d said after. Operates s d c.in_ok-operation-in-Move.operation said after) c.local-in-Move.result c.local-in-Move.new.self
-    (ap (λ n. lines.Move n c.in-Move.from c.in-Move.to) c.as_slice-in-Move.ensures ∙ sym c.in-Move.is) refl (λ d text new named o. (d, named, subst (λ x. Operates s d x text new) c.in_ok-operation-in-Move.ensures o)) (c.local-in-Move.ensures.ok s stands)
+    (ap (λ n. lines.Move n c.in-Move.from c.in-Move.to) c.as_slice-in-Move.ensures ∙ sym c.in-Move.is) refl refl (λ d text new named o. (d, named, subst (λ x. Operates s d x text new) c.in_ok-operation-in-Move.ensures o)) (c.local-in-Move.ensures.ok s stands)
 
 pub returns-in_ok-operation-in-Remove-clause-ok : goal.returns-in_ok-operation-in-Remove-clause-ok
 returns-in_ok-operation-in-Remove-clause-ok c = λ s stands.
     let name = c.as_slice-in-Remove.result.now in
     named_line s (lines.Remove name c.in-Remove.path) c.args.line.now name (λ d said after. Operates s d c.in_ok-operation-in-Remove.operation said after) c.local-in-Remove.result c.local-in-Remove.new.self
-    (ap (λ n. lines.Remove n c.in-Remove.path) c.as_slice-in-Remove.ensures ∙ sym c.in-Remove.is) refl (λ d text new named o. (d, named, subst (λ x. Operates s d x text new) c.in_ok-operation-in-Remove.ensures o)) (c.local-in-Remove.ensures.ok s stands)
+    (ap (λ n. lines.Remove n c.in-Remove.path) c.as_slice-in-Remove.ensures ∙ sym c.in-Remove.is) refl refl (λ d text new named o. (d, named, subst (λ x. Operates s d x text new) c.in_ok-operation-in-Remove.ensures o)) (c.local-in-Remove.ensures.ok s stands)
 
 pub returns-in-Consume-clause-ok : goal.returns-in-Consume-clause-ok
 returns-in-Consume-clause-ok c = λ s stands.
     let name = c.as_slice-in-Consume.result.now in
     named_line s (lines.Consume name c.in-Consume.moment) c.args.line.now name (λ d said after. Consumes s name d c.in-Consume.moment said after) c.consume_line.result c.consume_line.new.self
-    (ap (λ n. lines.Consume n c.in-Consume.moment) c.as_slice-in-Consume.ensures ∙ sym c.in-Consume.is) refl (λ d text new named o. (d, named, o)) (c.consume_line.ensures.ok s stands)
+    (ap (λ n. lines.Consume n c.in-Consume.moment) c.as_slice-in-Consume.ensures ∙ sym c.in-Consume.is) refl refl (λ d text new named o. (d, named, o)) (c.consume_line.ensures.ok s stands)
 
 pub returns-in-Change-clause-ok : goal.returns-in-Change-clause-ok
 returns-in-Change-clause-ok c = λ s stands.
     let name = c.as_slice-in-Change.result.now in
     named_line s (lines.Change name c.in-Change.path c.in-Change.moment) c.args.line.now name (λ d said after. Changes s name d (op.Put c.in-Change.path []) c.in-Change.moment said after) c.change.result c.change.new.self
-    (ap (λ n. lines.Change n c.in-Change.path c.in-Change.moment) c.as_slice-in-Change.ensures ∙ sym c.in-Change.is) refl (λ d text new named o. (d, named, o)) (c.change.ensures.ok s stands)
+    (ap (λ n. lines.Change n c.in-Change.path c.in-Change.moment) c.as_slice-in-Change.ensures ∙ sym c.in-Change.is) refl refl (λ d text new named o. (d, named, o)) (c.change.ensures.ok s stands)
 
 pub returns-in-Pull-clause-ok : goal.returns-in-Pull-clause-ok
 returns-in-Pull-clause-ok c = λ s stands.
@@ -59,16 +59,16 @@ pub returns-in-Show-clause-ok : goal.returns-in-Show-clause-ok
 returns-in-Show-clause-ok c = λ s stands.
     let name = c.as_slice-in-Show.result.now in
     printed_line s (lines.Show name) c.args.line.now name (λ d said after. Shows s d said × (after ≡ s)) c.show.result c.args.self.now
-    (ap lines.Show c.as_slice-in-Show.ensures ∙ sym c.in-Show.is) refl (λ d text named o. (d, named, o.0, o.1)) stands (c.show.ensures s stands)
+    (ap lines.Show c.as_slice-in-Show.ensures ∙ sym c.in-Show.is) refl refl (λ d text named o. (d, named, o.0, o.1)) stands (c.show.ensures s stands)
 
 pub returns-in-Tree-clause-ok : goal.returns-in-Tree-clause-ok
 returns-in-Tree-clause-ok c = λ s stands.
     let name = c.as_slice-in-Tree.result.now in
     printed_line s (lines.Tree name) c.args.line.now name (λ d said after. PrintsTree s d said × (after ≡ s)) c.tree.result c.args.self.now
-    (ap lines.Tree c.as_slice-in-Tree.ensures ∙ sym c.in-Tree.is) refl (λ d text named o. (d, named, o.0, o.1)) stands (c.tree.ensures s stands)
+    (ap lines.Tree c.as_slice-in-Tree.ensures ∙ sym c.in-Tree.is) refl refl (λ d text named o. (d, named, o.0, o.1)) stands (c.tree.ensures s stands)
 
 pub returns-in-Count-clause-ok : goal.returns-in-Count-clause-ok
 returns-in-Count-clause-ok c = λ s stands.
     let name = c.as_slice-in-Count.result.now in
     printed_line s (lines.Count name) c.args.line.now name (λ d said after. Counts s d said × (after ≡ s)) c.count.result c.args.self.now
-    (ap lines.Count c.as_slice-in-Count.ensures ∙ sym c.in-Count.is) refl (λ d text named o. (d, named, o.0, o.1)) stands (c.count.ensures s stands)
+    (ap lines.Count c.as_slice-in-Count.ensures ∙ sym c.in-Count.is) refl refl (λ d text named o. (d, named, o.0, o.1)) stands (c.count.ensures s stands)
