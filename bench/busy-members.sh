@@ -4,11 +4,7 @@
 # with the start of the process in it; the memory is the most that the process held.
 # Usage: bench/busy-members.sh, anywhere in the repository.
 set -eu
-top=$(cd "$(dirname "$0")/.." && pwd)
-dfsr=$top/crates/dfsr/out/dfsr
-"$top/dfsr" --version >/dev/null
-work=$(mktemp -d)
-trap 'rm -rf "$work"' EXIT
+. "$(dirname "$0")/common.sh"
 
 # three members and this many lines, then what each member holds: one member changes six files,
 # removes the last of them and consumes that, then the next member does; every tenth line is a pull

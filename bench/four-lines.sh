@@ -5,11 +5,7 @@
 # start of the process in it.
 # Usage: bench/four-lines.sh, anywhere in the repository.
 set -eu
-top=$(cd "$(dirname "$0")/.." && pwd)
-dfsr=$top/crates/dfsr/out/dfsr
-"$top/dfsr" --version >/dev/null
-work=$(mktemp -d)
-trap 'rm -rf "$work"' EXIT
+. "$(dirname "$0")/common.sh"
 
 # one member, and this many `show` lines
 shows() {
