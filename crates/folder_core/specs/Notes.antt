@@ -2,9 +2,10 @@
 use Rattle.std.specs.Prelude.{ℕ, List, option_map}
 use Rattle.frs_base.specs.declared.kind.Kind.TheVariants as kind
 use Rattle.frs_base.specs.declared.sum.Sum.{Sum}
+use Rattle.sha1.specs.Sha1.{sha1}
 use Rattle.vol_state.specs.declared.operation.LocalOp.{LocalOp}
 use Rattle.vol_state.specs.declared.operation.LocalOp.TheVariants as op
-use Rattle.name_rules.specs.Next.{content_sum}
+use Rattle.vol_state.specs.Sums.{content_sum}
 use Rattle.pinned_pages.specs.declared.answer.FileAnswer.{FileAnswer}
 use Rattle.pinned_pages.specs.declared.answer.FileAnswer.TheVariants as answer
 use Rattle.folder_core.specs.declared.event.Event.{Event}
@@ -20,13 +21,13 @@ use Rattle.folder_core.specs.declared.mark.FileMark.TheVariants as file
 use Rattle.folder_core.specs.declared.mark.Mark.{Mark}
 use Rattle.folder_core.specs.declared.mark.Mark.TheVariants as mark
 
--- the sum of a file's contents
-abbrev pub sum_of : List ℕ → Sum
-sum_of bytes = content_sum kind.File bytes
+-- the sum of a form
+abbrev pub form_sum : List ℕ → Sum
+form_sum form = record { 0 = sha1 form }
 
 -- a local operation
 abbrev pub local_note_of : LocalOp → LocalNote
-local_note_of (op.Put path bytes) = local.Put path (sum_of bytes)
+local_note_of (op.Put path bytes) = local.Put path (content_sum kind.File bytes)
 local_note_of (op.Mkdir path) = local.Mkdir path
 local_note_of (op.Move from to) = local.Move from to
 local_note_of (op.Remove path) = local.Remove path
@@ -37,7 +38,7 @@ note_of (event.Local operation) = note.Local (local_note_of operation)
 note_of (event.Consume moment) = note.Consume moment
 note_of event.Vector = note.Vector
 note_of (event.File uid) = note.File uid
-note_of (event.Adopt from at update form) = note.Adopt from at update (option_map sum_of form)
+note_of (event.Adopt from at update form) = note.Adopt from at update (option_map form_sum form)
 note_of (event.Finish from at sent seen) = note.Finish from at sent seen
 
 -- an answer about a file

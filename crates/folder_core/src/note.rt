@@ -1,13 +1,13 @@
 // Events as a history keeps them.
 ghost use Rattle.std.specs.Prelude.{◌≡◌, IfOk};
-ghost use Rattle.folder_core.specs.Notes.{local_note_of, note_of, sum_of};
+ghost use Rattle.folder_core.specs.Notes.{form_sum, local_note_of, note_of};
 
 use crate::Event;
 use crate::copies::{copy_names, copy_updates};
-use frs_base::{Bytes, Guid, List, Name, Sum, Uid};
+use frs_base::{Bytes, Guid, Kind, List, Name, Sum, Uid};
 use std::alloc::{AllocError, Global};
 use version_vector::Vector;
-use vol_state::LocalOp;
+use vol_state::{LocalOp, content_sum};
 use win_order::Update;
 
 /// A local operation with the sum of contents in their place.
@@ -55,12 +55,11 @@ pub enum Note {
     },
 }
 
-/// The sum of a file's contents: all zero, until contents have one.
-fn sum_of(bytes: &Bytes) -> Sum
-    ensures { result ≡ sum_of bytes.now }
+/// The sum of a form.
+fn form_sum(form: &Bytes) -> Sum
+    ensures { result ≡ form_sum form.now }
 {
-    let _ = bytes;
-    Sum([0; 20])
+    Sum(marshal_form::sum(form.as_slice()))
 }
 
 impl LocalNote {
@@ -71,7 +70,7 @@ impl LocalNote {
         Ok(match operation {
             LocalOp::Put { path, bytes } => LocalNote::Put {
                 path: copy_names(alloc, path.as_slice())?,
-                sum: sum_of(bytes),
+                sum: content_sum(Kind::File, bytes),
             },
             LocalOp::Mkdir { path } => LocalNote::Mkdir {
                 path: copy_names(alloc, path.as_slice())?,
@@ -128,7 +127,7 @@ impl Note {
                 from: *from,
                 at: *at,
                 update: update.copy()?,
-                form: form.as_ref().map(sum_of),
+                form: form.as_ref().map(form_sum),
             },
             Event::Finish {
                 from,

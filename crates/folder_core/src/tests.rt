@@ -93,14 +93,14 @@ fn update_of(alloc: Global, word: &str, gvsn: Gvsn, uid: Uid, clock: u64) -> Res
     })
 }
 
-fn adopt(update: Update) -> Event
+fn adopt(update: Update, form: Option<Bytes>) -> Event
     ensures { IsEarlyEvent result }
 {
     Event::Adopt {
         from: database_of(2),
         at: 1,
         update,
-        form: None,
+        form,
     }
 }
 
@@ -177,7 +177,7 @@ fn numbered(alloc: Global, word: &str, numbers: &[u64]) -> Result<Event, Fail>
                 seen.push(update)?;
                 return Ok(finish(Vector::empty(), seen));
             }
-            Ok(adopt(update))
+            Ok(adopt(update, None))
         }
         _ => Err("no event")?,
     }
@@ -332,6 +332,45 @@ vector -> sent 1 of 1 at 8 | 12 10 1 1 3",
         assert!(rt; entry.copy(alloc)?.caller == 7);
     }
     assert!(rt; folder.history().len() == 8 && folder.book().phase() == Phase::Initial);
+    Ok(())
+}
+
+/// What `sha1sum` says of the form of a file with the contents `hi`.
+const HI_SUM: Sum = Sum([
+    0x23, 0x3d, 0x31, 0x19, 0xee, 0xf9, 0x4b, 0x3c, 0x5d, 0x27, 0x9f, 0xb6, 0xf3, 0x96, 0x0f, 0xbb,
+    0x04, 0xc7, 0x1c, 0xb0,
+]);
+
+/// What `sha1sum` says of the bytes `form`.
+const FORM_SUM: Sum = Sum([
+    0xd0, 0x0b, 0x39, 0x81, 0x5c, 0x18, 0x7d, 0x83, 0x2c, 0xef, 0x32, 0x39, 0xeb, 0x7a, 0x77, 0x58,
+    0x07, 0x28, 0xdc, 0x47,
+]);
+
+/// The contents of a put have the sum that they give its file, and a form has its own.
+#[test]
+fn notes_keep_sums(rt: HostRuntime) -> Result<(), Fail> {
+    let alloc = rt.alloc();
+    let mut folder = primary();
+    try_rows(&rt, alloc, &mut folder, "put f hi -> usn 9 | 10 9 0 0 0")?;
+    let update = update_of(alloc, "file", version_of(2, 9), file_of(2, 9), 10)?;
+    let form = Bytes::of(Vec::from_slice(alloc, b"form")?);
+    folder.event(alloc, 7, adopt(update, Some(form)))?;
+    let [put, adopted] = folder.history() else {
+        return Err("two entries")?;
+    };
+    let Note::Local(LocalNote::Put { sum, .. }) = &put.note else {
+        return Err("a put")?;
+    };
+    assert_eq!(rt; *sum, HI_SUM);
+    let [object] = folder.volume().objects() else {
+        return Err("one object")?;
+    };
+    assert_eq!(rt; object.sum, HI_SUM);
+    let Note::Adopt { form, .. } = &adopted.note else {
+        return Err("an adoption")?;
+    };
+    assert_eq!(rt; *form, Some(FORM_SUM));
     Ok(())
 }
 

@@ -5,6 +5,7 @@
 //! names the first place that is in no form. The fields are listed in `specs/Fields.antt`.
 //!
 //! [`head`] and [`sum`] are for what is kept of a form: its first bytes, and the hash of it all.
+//! [`local_sum`] is that hash for the contents of a local file, whose form needn't be made.
 #![tactic(auto)]
 
 mod errors;
@@ -22,7 +23,7 @@ pub use laws::{
 };
 pub use marshalling::{head, marshal};
 pub use meta::Meta;
-pub use summing::sum;
+pub use summing::{local_sum, sum};
 pub use unmarshalling::unmarshal;
 
 #[cfg(test)]

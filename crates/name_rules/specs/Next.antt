@@ -1,6 +1,5 @@
 -- What the installer does next, by the records of a member.
 use Rattle.std.specs.Prelude.{◌≡◌, ◌≢◌, ◌≤◌, ℕ, true, false, List, Option, Some, None}
-use Rattle.frs_base.specs.declared.kind.Kind.{Kind}
 use Rattle.frs_base.specs.declared.sum.Sum.{Sum}
 use Rattle.frs_base.specs.declared.version.Uid.{Uid}
 use Rattle.win_order.specs.declared.update.Update.{Update}
@@ -9,7 +8,7 @@ use Rattle.vol_state.specs.declared.record.VolRecord.{VolRecord}
 use Rattle.vol_state.specs.declared.command.VolCmd.{VolCmd}
 use Rattle.vol_state.specs.declared.command.VolCmd.TheVariants as cmd
 use Rattle.vol_state.specs.State.{uid_of}
-use Rattle.vol_state.specs.Effects.{no_sum}
+use Rattle.vol_state.specs.Sums.{content_sum}
 use Rattle.vol_state.specs.Maps.{Maps}
 use Rattle.vol_state.specs.Tables.{IsAt, IsNew}
 use Rattle.name_rules.specs.Recorded.{parent_uid}
@@ -36,10 +35,6 @@ pub data Step : Type 0 where
   Place : Uid → Step
   Unstage : Uid → Step
   Skip : ℕ → Step
-
--- the sum that contents give an object: all zero, until contents have one
-abbrev pub content_sum : Kind → List ℕ → Sum
-content_sum kind bytes = no_sum
 
 -- the object's record is shown at exactly this place
 abbrev pub IsInPlace : (Update → Type 0) → ℕ → Maps → Object → ℕ × List ℕ → Type 0

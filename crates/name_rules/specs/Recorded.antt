@@ -15,7 +15,8 @@ use Rattle.vol_state.specs.declared.record.VolRecord.{VolRecord}
 use Rattle.vol_state.specs.Places.{is_directory}
 use Rattle.vol_state.specs.State.{State, uid_of}
 use Rattle.vol_state.specs.Journal.{record_at}
-use Rattle.vol_state.specs.Effects.{no_sum, uid_found}
+use Rattle.vol_state.specs.Sums.{no_sum}
+use Rattle.vol_state.specs.Effects.{uid_found}
 use Rattle.vol_state.specs.Conditions.{root_uid}
 use Rattle.vol_state.specs.Maps.{Maps, maps_of}
 

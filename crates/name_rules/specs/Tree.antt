@@ -8,7 +8,7 @@ use Rattle.frs_base.specs.declared.version.Uid.{Uid}
 use Rattle.win_order.specs.Order.{is_directory, key_lt, key_of}
 use Rattle.win_order.specs.declared.update.Update.{Update}
 use Rattle.vol_state.specs.declared.object.Object.{Object}
-use Rattle.vol_state.specs.Effects.{no_sum}
+use Rattle.vol_state.specs.Sums.{no_sum}
 use Rattle.vol_state.specs.Conditions.{root_uid}
 use Rattle.vol_state.specs.Maps.{Maps}
 use Rattle.vol_state.specs.Tables.{IsAt}

@@ -1,14 +1,14 @@
 -- What each command does to a volume.
-use Rattle.std.specs.Prelude.{◌+◌, ◌==◌, ℕ, Bool, true, false, if◌then◌else◌, List, [], ◌∷◌, ◌++◌, Option, Some, None, replicate}
+use Rattle.std.specs.Prelude.{◌+◌, ◌==◌, ℕ, Bool, true, false, if◌then◌else◌, List, [], ◌∷◌, ◌++◌, Option, Some, None}
 use Rattle.frs_base.specs.declared.kind.Kind.{Kind}
 use Rattle.frs_base.specs.declared.kind.Kind.TheVariants.{File, Directory}
 use Rattle.frs_base.specs.declared.version.Uid.{Uid}
-use Rattle.frs_base.specs.declared.sum.Sum.{Sum}
 use Rattle.vol_state.specs.declared.object.Object.{Object}
 use Rattle.vol_state.specs.declared.command.VolCmd.{VolCmd}
 use Rattle.vol_state.specs.declared.command.VolCmd.TheVariants.{PutNew, PutOver, Mkdir, Move, Remove, Park, Erase, Make, Rewrite, Place}
 use Rattle.vol_state.specs.Places.{object_at}
 use Rattle.vol_state.specs.State.{State, uid_of}
+use Rattle.vol_state.specs.Sums.{content_sum}
 
 -- the object with this number is changed by f
 abbrev pub edit : ℕ → (Object → Object) → List Object → List Object
@@ -19,10 +19,6 @@ edit fid f (o ∷ os) = if o.fid == fid then f o ∷ os else o ∷ edit fid f os
 abbrev pub without : ℕ → List Object → List Object
 without fid [] = []
 without fid (o ∷ os) = if o.fid == fid then os else o ∷ without fid os
-
--- the sum of every object, until contents have one
-abbrev pub no_sum : Sum
-no_sum = record { 0 = replicate 20 0 }
 
 -- the journal has one more record, with the next USN
 abbrev pub logged : ℕ → Uid → ℕ → Bool → State → State
@@ -36,14 +32,14 @@ stamp local usn o = record o { last_local = if local then usn else o.last_local 
 abbrev pub at_place : Option (ℕ × List ℕ) → Object → Object
 at_place place o = record o { place = place }
 
--- the object with other contents
+-- the object with other contents, and their sum
 abbrev pub with_bytes : List ℕ → Object → Object
-with_bytes bytes o = record o { bytes = bytes; sum = no_sum }
+with_bytes bytes o = record o { bytes = bytes; sum = content_sum o.kind bytes }
 
 -- an object with the next fid, born at the next USN
 abbrev pub new_object : State → Option (ℕ × List ℕ) → Kind → List ℕ → Option Uid → Bool → Object
 new_object v place kind bytes tag local =
-    record { fid = v.next_fid; place = place; kind = kind; bytes = bytes; sum = no_sum; born = v.next_usn; tag = tag; last_local = if local then v.next_usn else 0 }
+    record { fid = v.next_fid; place = place; kind = kind; bytes = bytes; sum = content_sum kind bytes; born = v.next_usn; tag = tag; last_local = if local then v.next_usn else 0 }
 
 -- an object is added
 abbrev pub added : ℕ → Bool → Object → State → State

@@ -3,6 +3,7 @@ pub mod Paths
 pub mod Tree
 pub mod State
 pub mod Numbers
+pub mod Sums
 pub mod Effects
 pub mod Conditions
 pub mod Replica

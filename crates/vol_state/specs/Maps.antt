@@ -10,7 +10,8 @@ use Rattle.vol_state.specs.declared.command.VolCmd.TheVariants.{PutNew, PutOver,
 use Rattle.vol_state.specs.Places.{object_at}
 use Rattle.vol_state.specs.State.{State, uid_of}
 use Rattle.vol_state.specs.Journal.{record_at}
-use Rattle.vol_state.specs.Effects.{at_place, no_sum, stamp, uid_found, with_bytes, effect}
+use Rattle.vol_state.specs.Sums.{content_sum}
+use Rattle.vol_state.specs.Effects.{at_place, stamp, uid_found, with_bytes, effect}
 use Rattle.vol_state.specs.Conditions.{is_allowed}
 use Rattle.vol_state.specs.Valid.{IsVolume}
 use Rattle.vol_state.specs.Laws.{AreFree}
@@ -39,7 +40,7 @@ written m fid o uid op local = record m {
 -- an object is made, with the next number, in the volume of this database
 abbrev pub makes : ℕ → ℕ → Bool → Option (ℕ × List ℕ) → Kind → List ℕ → Option Uid → Maps → Maps
 makes own op local place kind bytes tag m =
-    let o : Object = record { fid = m.next_fid; place = place; kind = kind; bytes = bytes; sum = no_sum; born = m.next_usn; tag = tag; last_local = if local then m.next_usn else 0 } in
+    let o : Object = record { fid = m.next_fid; place = place; kind = kind; bytes = bytes; sum = content_sum kind bytes; born = m.next_usn; tag = tag; last_local = if local then m.next_usn else 0 } in
     written m m.next_fid (Some o) (uid_of own o) op local
 
 -- an object is changed by f

@@ -21,6 +21,7 @@ mod paths;
 mod record;
 mod replica;
 mod shelf;
+mod sums;
 mod tree;
 mod volume;
 
@@ -33,6 +34,7 @@ pub use laws::{
 pub use object::Object;
 pub use operation::{LocalOp, Refused};
 pub use record::VolRecord;
+pub use sums::content_sum;
 pub use volume::Volume;
 
 #[cfg(test)]

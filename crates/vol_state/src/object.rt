@@ -16,7 +16,7 @@ pub struct Object {
     pub kind: Kind,
     /// A file's contents; a directory has none.
     pub bytes: Bytes,
-    /// The sum of a file's contents, all zero for a directory.
+    /// The sum of a file's form, all zero for a directory.
     pub sum: Sum,
     /// The USN of the operation that made it.
     pub born: u64,

@@ -8,8 +8,8 @@ ghost use Rattle.frs_base.specs.Options.{some_is};
 ghost use Rattle.vol_state.specs.Conditions.{is_file};
 ghost use Rattle.vol_state.specs.Effects.{at_place, edit, stamp, with_bytes, without};
 
-use crate::Object;
-use frs_base::{Bytes, Kind, Name, Sum};
+use crate::{Object, content_sum};
+use frs_base::{Bytes, Kind, Name};
 use std::alloc::{AllocError, Global};
 
 /// The index of the first object whose number isn't below this one.
@@ -128,8 +128,8 @@ fn fill_at(objects: &mut [Object], fid: u64, bytes: Bytes, local: bool, usn: u64
 {
     if let Some(at) = index_of(objects, fid) {
         let o = &mut objects[at];
+        o.sum = content_sum(o.kind, &bytes);
         o.bytes = bytes;
-        o.sum = Sum([0; 20]);
         if local {
             o.last_local = usn;
         }

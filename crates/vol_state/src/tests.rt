@@ -1,5 +1,5 @@
 use crate::{LocalOp, Object, Refused, VolCmd, Volume};
-use frs_base::{Bytes, Kind, List, Name, database_of};
+use frs_base::{Bytes, Kind, List, Name, Sum, database_of};
 use std::alloc::Global;
 use std::process::Abort;
 use std::test::Fail;
@@ -196,6 +196,43 @@ fn a_table_of_operations_and_refusals(rt: HostRuntime) -> Result<(), Fail> {
     assert!(rt; is_file_of(&objects[2], 2, &name_of(alloc, "X")?, b"3"));
     // Fifteen rows were done, from USN 9 on.
     assert_eq!(rt; volume.next_usn(), 24);
+    Ok(())
+}
+
+/// What `sha1sum` says of the form of a file with the contents `hi`.
+const HI_SUM: Sum = Sum([
+    0x23, 0x3d, 0x31, 0x19, 0xee, 0xf9, 0x4b, 0x3c, 0x5d, 0x27, 0x9f, 0xb6, 0xf3, 0x96, 0x0f, 0xbb,
+    0x04, 0xc7, 0x1c, 0xb0,
+]);
+
+/// What `sha1sum` says of the form of a file with no contents.
+const EMPTY_SUM: Sum = Sum([
+    0x09, 0xe7, 0x17, 0x68, 0x28, 0x4d, 0xae, 0x92, 0x8d, 0x5b, 0xad, 0x02, 0x58, 0x1d, 0xe9, 0x6e,
+    0xf2, 0xd9, 0x82, 0x69,
+]);
+
+/// A file that is made, one that is put over, and a directory.
+const FOR_THEIR_SUMS: &str = "put a hi done
+put b longer done
+put B - done
+mkdir d - done";
+
+/// The sum of the object with this number.
+fn sum_at(volume: &Volume, fid: u64) -> Option<Sum> {
+    match volume.object_at(fid) {
+        None => None,
+        Some(o) => Some(o.sum),
+    }
+}
+
+#[test]
+fn files_have_the_sums_of_their_forms(rt: HostRuntime) -> Result<(), Fail> {
+    let alloc = rt.alloc();
+    let mut volume = Volume::new(database_of(1));
+    try_rows(&rt, alloc, &mut volume, FOR_THEIR_SUMS)?;
+    assert!(rt; sum_at(&volume, 1) == Some(HI_SUM));
+    assert!(rt; sum_at(&volume, 2) == Some(EMPTY_SUM));
+    assert!(rt; sum_at(&volume, 3) == Some(Sum([0; 20])));
     Ok(())
 }
 

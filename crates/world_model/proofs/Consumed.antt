@@ -13,7 +13,7 @@ use Rattle.vol_state.specs.declared.object.Object.{Object}
 use Rattle.vol_state.specs.declared.record.VolRecord.{VolRecord}
 use Rattle.vol_state.specs.State.{uid_of}
 use Rattle.vol_state.specs.Places.{is_directory as is_directory_kind}
-use Rattle.vol_state.specs.Effects.{no_sum}
+use Rattle.vol_state.specs.Sums.{no_sum}
 use Rattle.vol_state.specs.Maps.{Maps}
 use Rattle.vol_state.specs.Tables.{IsReached}
 use Rattle.record_db.specs.Records.{Has}

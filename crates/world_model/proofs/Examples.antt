@@ -22,10 +22,10 @@ use Rattle.world_model.proofs.Facts.{at_case, none_some, true_false}
 -- ---- superseded
 
 abbrev first : Update
-first = file (version 1 9) 2 100
+first = file [] (version 1 9) 2 100
 
 abbrev second : Update
-second = file (version 1 10) 2 200
+second = file (0 ∷ []) (version 1 10) 2 200
 
 abbrev w1 : World
 w1 = with_member begin 1 (operated 1 (PutNew 0 x []) (begin.at 1))
@@ -94,10 +94,10 @@ superseded_is = (w8, s1, second_wins _ refl, refl, refl, refl)
 -- ---- a tie
 
 abbrev third : Update
-third = file (version 2 11) 3 200
+third = file (2 ∷ []) (version 2 11) 3 200
 
 abbrev later : Update
-later = file (version 1 10) 3 200
+later = file (1 ∷ []) (version 1 10) 3 200
 
 abbrev t1 : World
 t1 = with_member begin 1 (operated 1 (PutNew 0 x []) (begin.at 1))

@@ -11,6 +11,7 @@ use Rattle.vol_state.specs.declared.record.VolRecord.{VolRecord}
 use Rattle.vol_state.specs.declared.command.VolCmd.{VolCmd}
 use Rattle.vol_state.specs.declared.command.VolCmd.TheVariants.{PutNew, PutOver, Mkdir, Move, Remove, Park, Erase, Make, Rewrite, Place}
 use Rattle.vol_state.specs.State.{uid_of}
+use Rattle.vol_state.specs.Sums.{content_sum}
 use Rattle.vol_state.specs.Conditions.{root_uid}
 use Rattle.vol_state.specs.Effects.{at_place, stamp, with_bytes}
 use Rattle.vol_state.specs.Tables.{IsAt, IsEmpty, IsNew, IsReplica}
@@ -190,7 +191,7 @@ replica_sound Known Records own x (Park fid) one begun inside kinds quiet due (o
 replica_sound Known Records own x (Rewrite fid bytes) one begun inside kinds quiet (q, r, at', is_record, uid, file, differs, staged, sum) (o, at, plain) s =
     subst (λ v. MemberIsSound Known Records own (with_volume x v)) (sym (changes_is own 9 false fid (with_bytes bytes) x.volume o at))
     (changes_sound Known Records own x 9 fid o (stamp false x.volume.next_usn (with_bytes bytes o)) quiet s at refl refl refl refl (tree_keep own x.volume fid o _ _ s.places at refl refl refl)
-    (λ u a i id c. sum ∙ ap (λ w. w.hash) (one r u is_record a (uid ∙ ap (uid_of own) (some_is q o (sym at' ∙ at)) ∙ id))))
+    (λ u a i id c. ap (λ z. content_sum z.kind bytes) (some_is o q (sym at ∙ at')) ∙ sum ∙ ap (λ w. w.hash) (one r u is_record a (uid ∙ ap (uid_of own) (some_is q o (sym at' ∙ at)) ∙ id))))
 replica_sound Known Records own x (Place fid parent name) one begun inside kinds quiet due (o, at, limbo, dir, beneath, free) s =
     subst (λ v. MemberIsSound Known Records own (with_volume x v)) (sym (changes_is own 10 false fid (at_place (Some (parent, name))) x.volume o at))
     (changes_sound Known Records own x 10 fid o (stamp false x.volume.next_usn (at_place (Some (parent, name)) o)) quiet s at refl refl refl refl

@@ -10,6 +10,7 @@ use Rattle.vol_state.specs.declared.object.Object.{Object}
 use Rattle.vol_state.specs.declared.command.VolCmd.TheVariants as cmd
 use Rattle.vol_state.specs.Places.{is_directory as is_directory_kind}
 use Rattle.vol_state.specs.State.{uid_of}
+use Rattle.vol_state.specs.Sums.{content_sum}
 use Rattle.vol_state.specs.Conditions.{root_uid}
 use Rattle.vol_state.specs.Tables.{BeneathBy, IsAt, IsBeneath, IsDirectory, IsEmpty, IsFree}
 use Rattle.record_db.specs.Records.{IsRecord}
@@ -17,7 +18,7 @@ use Rattle.record_db.proofs.Best.{best_one, held_is}
 use Rattle.record_db.proofs.Keys.{key_same}
 use Rattle.name_rules.specs.Recorded.{parent_uid}
 use Rattle.name_rules.specs.Tree.{HasName, IsShown, ShownBy, is_file, kind_of}
-use Rattle.name_rules.specs.Next.{IsQuiet, NothingToMake, NothingToPark, Step as InstallStep, content_sum}
+use Rattle.name_rules.specs.Next.{IsQuiet, NothingToMake, NothingToPark, Step as InstallStep}
 use Rattle.name_rules.proofs.Parents.{kind_is, parent_is, parent_root}
 use Rattle.name_rules.proofs.Shown.{shown_record}
 use Rattle.world_model.specs.World.{Member, World, IsRecordOf}
@@ -54,6 +55,14 @@ file_split u e = go u.present (is_directory u) e
     go p false e = refl
     go true true e = absurd (true_false false e refl)
     go false true e = absurd (true_false false e refl)
+
+-- a present file is of the kind of files
+file_kind : (u : Update) → is_file u ≡ true → kind_of u ≡ File
+file_kind u is = go (is_directory u) (file_split u is)
+  where
+    go : (d : Bool) → d ≡ false → cond d Directory File ≡ File
+    go false e = refl
+    go true e = absurd (true_false true refl e)
 
 -- a place in the root is 0
 root_place : (all : List Update) (own : ℕ) (x : Member) → IsSound all own x → (f : ℕ) → IsDirectory x.volume f → parent_uid own x.volume f ≡ root_uid → f ≡ 0
@@ -191,15 +200,11 @@ has_bytes x u contents staged = by (is_file u) refl
     plain true true e k = true_false false e refl
     plain false d e k = true_false false e refl
 
-    file : (d : Bool) → d ≡ false → cond d Directory File ≡ File
-    file false e = refl
-    file true e = absurd (true_false true refl e)
-
     by : (b : Bool) → is_file u ≡ b → HasBytes x u
     by false i = ([], λ k. refl, λ k. absurd (true_false (is_file u) k i))
     by true i =
         let (bytes, sum) = contents u.uid u.hash (staged i) in
-        let is : content_sum (kind_of u) bytes ≡ u.hash = ap (λ k. content_sum k bytes) (file (is_directory u) (file_split u i)) ∙ sum in
+        let is : content_sum (kind_of u) bytes ≡ u.hash = ap (λ k. content_sum k bytes) (file_kind u i) ∙ sum in
         (bytes, λ k. absurd (plain u.present (is_directory u) i (sym (kind_is u) ∙ k)), λ k. (staged i ∙ ap Some (sym is), is))
 
 pub next_steps : NextStepsCanBeDone
@@ -238,7 +243,9 @@ next_steps w h d contents quiet (InstallStep.Make file) turn (u, shown, id, none
     )
 next_steps w h d contents quiet (InstallStep.Rewrite file) turn (f, o, u, at, uid, r, id, is, differs) =
     let staged : (w.at d).staged u.uid ≡ Some u.hash = staged_for w.all d (w.at d) u (h.members d) quiet r is (λ c. differs (ap (λ z. z.sum) (same c) ∙ c.4)) in
-    let (bytes, sum) = contents u.uid u.hash staged in (
+    let (bytes, is_sum) = contents u.uid u.hash staged in
+    let kind : kind_of u ≡ o.kind = (h.members d).objects.kinds f o u at r.among.0 (id ∙ sym uid) in
+    let sum : content_sum o.kind bytes ≡ u.hash = ap (λ k. content_sum k bytes) (sym kind ∙ file_kind u is) ∙ is_sum in (
       _,
       (
         cmd.Rewrite f bytes,
@@ -246,7 +253,7 @@ next_steps w h d contents quiet (InstallStep.Rewrite file) turn (f, o, u, at, ui
         (
           quiet,
           (o, u, at, r, id ∙ sym uid, is, differs, staged ∙ ap Some (sym sum), sum),
-          (o, at, ap is_directory_kind (sym ((h.members d).objects.kinds f o u at r.among.0 (id ∙ sym uid))) ∙ (kind_is u ∙ file_split u is)),
+          (o, at, ap is_directory_kind (sym kind) ∙ (kind_is u ∙ file_split u is)),
           refl,
         ),
       ),

@@ -9,7 +9,7 @@ use Rattle.win_order.specs.declared.update.Update.{Update}
 use Rattle.vol_state.specs.declared.object.Object.{Object}
 use Rattle.vol_state.specs.Places.{is_directory as is_directory_kind}
 use Rattle.vol_state.specs.State.{uid_of}
-use Rattle.vol_state.specs.Effects.{no_sum}
+use Rattle.vol_state.specs.Sums.{no_sum}
 use Rattle.vol_state.specs.Conditions.{root_uid}
 use Rattle.vol_state.specs.Tables.{IsAt, IsDirectory}
 use Rattle.record_db.specs.Records.{IsRecord}

@@ -5,7 +5,8 @@ use Rattle.frs_base.specs.declared.kind.Kind.{Kind}
 use Rattle.frs_base.specs.declared.version.Uid.{Uid}
 use Rattle.vol_state.specs.declared.object.Object.{Object}
 use Rattle.vol_state.specs.declared.record.VolRecord.{VolRecord}
-use Rattle.vol_state.specs.Effects.{no_sum, stamp, uid_found}
+use Rattle.vol_state.specs.Sums.{content_sum}
+use Rattle.vol_state.specs.Effects.{stamp, uid_found}
 use Rattle.vol_state.specs.Maps.{Maps, changes, loses, with_at, written}
 use Rattle.vol_state.specs.State.{uid_of}
 use Rattle.vol_state.specs.Tables.{IsAt}
@@ -26,7 +27,7 @@ logs m fid uid op local = record { usn = m.next_usn; fid = fid; uid = uid; op = 
 -- an object that an operation makes
 abbrev pub made_object : Maps → Bool → Option (ℕ × List ℕ) → Kind → List ℕ → Option Uid → ℕ → Object
 made_object m local place kind bytes tag last =
-    record { fid = m.next_fid; place = place; kind = kind; bytes = bytes; sum = no_sum; born = m.next_usn; tag = tag; last_local = last }
+    record { fid = m.next_fid; place = place; kind = kind; bytes = bytes; sum = content_sum kind bytes; born = m.next_usn; tag = tag; last_local = last }
 
 -- a change of an object that is there
 pub changes_is : (own op : ℕ) (local : Bool) (fid : ℕ) (f : Object → Object) (m : Maps) (o : Object) → IsAt m fid o

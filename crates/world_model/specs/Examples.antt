@@ -8,7 +8,7 @@ use Rattle.frs_base.specs.declared.version.Uid.{Uid}
 use Rattle.win_order.specs.declared.update.Update.{Update}
 use Rattle.vol_state.specs.declared.command.VolCmd.TheVariants.{Make, Place, PutNew, PutOver}
 use Rattle.vol_state.specs.Conditions.{root_uid}
-use Rattle.vol_state.specs.Effects.{no_sum}
+use Rattle.vol_state.specs.Sums.{file_sum, no_sum}
 use Rattle.record_db.specs.Records.{IsRecord, Versions, both, plus}
 use Rattle.name_rules.specs.Tree.{IsShown}
 use Rattle.world_model.specs.Due.{View, due}
@@ -34,9 +34,9 @@ version db number = record { db = db; version = number }
 abbrev pub x : List ℕ
 x = 0x78 ∷ []
 
--- a file x in the root, made by member 1 at 100, of this version, with this fence and clock
-abbrev pub file : Gvsn → ℕ → ℕ → Update
-file gvsn fence clock = record {
+-- a file x in the root, made by member 1 at 100, with these contents, of this version, with this fence and clock
+abbrev pub file : List ℕ → Gvsn → ℕ → ℕ → Update
+file bytes gvsn fence clock = record {
   present = true;
   name_conflict = false;
   attributes = 0x20;
@@ -44,7 +44,7 @@ file gvsn fence clock = record {
   clock = clock;
   created = 100;
   set = content_set;
-  hash = no_sum;
+  hash = file_sum bytes;
   similarity = replicate 16 0;
   uid = record { db = 1; version = 9 };
   gvsn = gvsn;
@@ -67,14 +67,14 @@ superseded =
     ∷ at_one SendVector
     ∷ at_one (Local (PutOver 1 (0 ∷ [])))
     ∷ at_one (Consume 200)
-    ∷ at_one (SendUpdate (file (version 1 10) 2 200))
-    ∷ at_two (Adopt (file (version 1 10) 2 200))
+    ∷ at_one (SendUpdate (file (0 ∷ []) (version 1 10) 2 200))
+    ∷ at_two (Adopt (file (0 ∷ []) (version 1 10) 2 200))
     ∷ at_two (Finish (plus (λ g. false) (version 1 9)))
     ∷ []
 
 -- 2 holds the later change alone, and covers both versions of it and no third
 abbrev pub Superseded : Type 0
-Superseded = (w : World) × Run begin superseded w × IsOnly (IsRecordOf w 2) (file (version 1 10) 2 200)
+Superseded = (w : World) × Run begin superseded w × IsOnly (IsRecordOf w 2) (file (0 ∷ []) (version 1 10) 2 200)
     × ((w.at 2).known (version 1 9) ≡ true) × ((w.at 2).known (version 1 10) ≡ true) × ((w.at 2).known (version 1 11) ≡ false)
 
 -- ---- a tie
@@ -98,8 +98,8 @@ tie =
     at_one (Local (PutNew 0 x []))
     ∷ at_one (Consume 100)
     ∷ at_one SendVector
-    ∷ at_one (SendUpdate (file (version 1 9) 2 100))
-    ∷ at_two (Adopt (file (version 1 9) 2 100))
+    ∷ at_one (SendUpdate (file [] (version 1 9) 2 100))
+    ∷ at_two (Adopt (file [] (version 1 9) 2 100))
     ∷ at_two (Finish first_vector)
     ∷ at_two (Install (Make (record { db = 1; version = 9 }) File []))
     ∷ at_two (Install (Place 1 0 x))
@@ -113,8 +113,8 @@ tie =
     ∷ at_two (Local (PutOver 1 (2 ∷ [])))
     ∷ at_two (Consume 200)
     ∷ at_two SendVector
-    ∷ at_two (SendUpdate (file (version 2 11) 3 200))
-    ∷ at_one (Adopt (file (version 2 11) 3 200))
+    ∷ at_two (SendUpdate (file (2 ∷ []) (version 2 11) 3 200))
+    ∷ at_one (Adopt (file (2 ∷ []) (version 2 11) 3 200))
     ∷ at_one (Finish changed_vector)
     ∷ at_one SendVector
     ∷ at_two (Finish last_vector)
@@ -122,7 +122,7 @@ tie =
 
 -- by the versions' databases the change of 2 wins, and both hold it alone, and cover all versions of both
 abbrev pub Tie : Type 0
-Tie = (w : World) × Run begin tie w × IsOnly (IsRecordOf w 1) (file (version 2 11) 3 200) × IsOnly (IsRecordOf w 2) (file (version 2 11) 3 200)
+Tie = (w : World) × Run begin tie w × IsOnly (IsRecordOf w 1) (file (2 ∷ []) (version 2 11) 3 200) × IsOnly (IsRecordOf w 2) (file (2 ∷ []) (version 2 11) 3 200)
     × ((w.at 1).known (version 1 10) ≡ true) × ((w.at 2).known (version 1 10) ≡ true)
 
 -- ---- a cycle of parents

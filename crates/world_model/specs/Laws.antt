@@ -12,10 +12,11 @@ use Rattle.win_order.specs.declared.update.Update.{Update}
 use Rattle.vol_state.specs.declared.object.Object.{Object}
 use Rattle.vol_state.specs.declared.command.VolCmd.{VolCmd}
 use Rattle.vol_state.specs.State.{uid_of}
+use Rattle.vol_state.specs.Sums.{content_sum}
 use Rattle.vol_state.specs.Tables.{IsAt}
 use Rattle.record_db.specs.Records.{Versions, Covered, IsHeldOrBeaten}
 use Rattle.name_rules.specs.Tree.{IsRow, IsVolumeRow, kind_of}
-use Rattle.name_rules.specs.Next.{IsCandidate, IsDrained, IsPending, IsQuiet, IsStepOf, IsTurn, Step as InstallStep, content_sum}
+use Rattle.name_rules.specs.Next.{IsCandidate, IsDrained, IsPending, IsQuiet, IsStepOf, IsTurn, Step as InstallStep}
 use Rattle.world_model.specs.World.{Member, World, SentVector, IsRecordOf, fresh_member, fresh_world}
 use Rattle.world_model.specs.Events.{Event, Step, Adopt, Install, Unstage, IsAllHeld, Consume}
 use Rattle.world_model.specs.Runs.{CoversAlike, Grows, Happening, Run}

@@ -7,8 +7,8 @@ ghost use Rattle.vol_state.specs.Numbers.{has_fid, has_usn, own_version};
 ghost use Rattle.vol_state.specs.Effects.{added, at_place, edited, gone, new_object, uid_found, with_bytes};
 ghost use Rattle.vol_state.specs.Conditions.{step};
 
-use crate::{Object, Ready, VolCmd, VolRecord, Volume};
-use frs_base::{Bytes, Guid, Kind, Name, Sum, Uid};
+use crate::{Object, Ready, VolCmd, VolRecord, Volume, content_sum};
+use frs_base::{Bytes, Guid, Kind, Name, Uid};
 use std::alloc::{AllocError, Global};
 
 /// The version of an object's tag of the own database.
@@ -60,12 +60,13 @@ impl Volume {
     {
         let usn = self.next_usn;
         let fid = self.next_fid;
+        let sum = content_sum(kind, &bytes);
         let object = Object {
             fid,
             place,
             kind,
             bytes,
-            sum: Sum([0; 20]),
+            sum,
             born: usn,
             tag,
             last_local: first_local(local, usn),
