@@ -25,6 +25,7 @@ pub mod Paging
 pub mod Asking
 pub mod Whole
 pub mod Speaking
+pub mod Beginning
 pub mod Orders
 pub mod Once
 pub mod OneText
