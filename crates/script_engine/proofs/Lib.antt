@@ -26,6 +26,7 @@ pub mod Asking
 pub mod Whole
 pub mod Speaking
 pub mod Beginning
+mod Halting
 pub mod Orders
 pub mod Once
 pub mod OneText
