@@ -25,6 +25,8 @@ pub mod Paging
 pub mod Asking
 pub mod Whole
 pub mod Speaking
+pub mod Beginning
+mod Halting
 pub mod Orders
 pub mod Once
 pub mod OneText

@@ -2,6 +2,7 @@
 use Rattle.std.proofs.Common.{◌≡◌, ◌<◌, ◌≤◌, ◌+◌, ◌++◌, ◌⊎◌, ℕ, zero, suc, true, false, List, [], ◌∷◌, length, take, drop, get_or, refl, sym, ap, ◌∙◌, subst, arith, inl, inr, Option, Some, None, append_assoc, append-nil, MatchOption}
 use Rattle.std.specs.Cmp.{IsStrictWeakOrder}
 use Rattle.std.proofs.lemmas.Bool.Decides.{nat_tests}
+use Rattle.std.proofs.lemmas.List.{take-append-drop}
 use Rattle.frs_base.specs.Options.{In}
 use Rattle.win_order.specs.Order.{Beats, key_of}
 use Rattle.win_order.specs.declared.update.Update.{Update}
@@ -21,6 +22,7 @@ use Rattle.world_model.proofs.Versions.{step_made, step_sent}
 use Rattle.script_engine.specs.declared.refusal.Refusal.{Refusal}
 use Rattle.script_engine.specs.declared.refusal.Refusal.TheVariants.{NotYet, VectorFull}
 use Rattle.script_engine.specs.Pulling.{IsLastPending, IsTooMuch, Takes, TakesFiles, TakesPages}
+use Rattle.script_engine.specs.Begun.{BeginsFiles, BeginsPages}
 use Rattle.script_engine.specs.Pulls.{AreCovered, ArePages, AreTreated, CanTake, version_lt}
 
 -- ---- lists
@@ -47,11 +49,13 @@ in_place [] i x l e = absurd (omega (arith, l))
 in_place (y ∷ ys) zero x l e = inl e
 in_place (y ∷ ys) (suc i) x l e = inr (in_place ys i x (omega (arith, l)) e)
 
-pub drop_end : {X : Type 0} (xs : List X) (i : ℕ) → length xs ≤ i → drop i xs ≡ []
-drop_end [] zero l = refl
-drop_end [] (suc i) l = refl
-drop_end (y ∷ ys) zero l = absurd (omega (arith, l))
-drop_end (y ∷ ys) (suc i) l = drop_end ys i (omega (arith, l))
+-- the first items and this one, or the first of one more
+pub take_one : {X : Type 0} (xs : List X) (i : ℕ) (x : X) (rest : List X) → i < length xs → x ≡ get_or xs i x → take i xs ++ (x ∷ rest) ≡ take (i + 1) xs ++ rest
+take_one xs i x rest l e = sym (append_assoc (take i xs) (x ∷ []) rest) ∙ ap (λ zs. zs ++ rest) (sym (take_at xs i x l e))
+
+-- the first items, this one and those behind it are all
+pub take_whole : {X : Type 0} (xs : List X) (i : ℕ) (x : X) → i < length xs → x ≡ get_or xs i x → take i xs ++ (x ∷ drop (i + 1) xs) ≡ xs
+take_whole xs i x l e = ap (λ zs. take i xs ++ zs) (sym (drop_at xs i x l e)) ∙ take-append-drop i xs
 
 pub take_end : {X : Type 0} (xs : List X) (i : ℕ) → length xs ≤ i → take i xs ≡ xs
 take_end [] zero l = refl
@@ -63,13 +67,13 @@ take_end (y ∷ ys) (suc i) l = ap (λ zs. y ∷ zs) (take_end ys i (omega (arit
 
 -- the first i updates were treated
 pub record PagesSo (start : World) (p s : ℕ) (page : List Update) (i : ℕ) (w : World) (listed : List Update) (taken : ℕ) : Type 0 where
-  pub goes_on : (more : List Update) (others : ℕ) (why : Option Refusal) (new : World) → TakesPages w p s (drop i page) more others why new → TakesPages start p s page (listed ++ more) (taken + others) why new
+  pub goes_on : (rest more : List Update) (others : ℕ) (why : Option Refusal) (new : World) → TakesPages w p s rest more others why new → TakesPages start p s (take i page ++ rest) (listed ++ more) (taken + others) why new
   pub treated : AreTreated w p (take i page) listed
   pub grows : Grows start w
 
 pub pages_begin : (w : World) (p s : ℕ) (page : List Update) → PagesSo w p s page 0 w [] 0
 pages_begin w p s page = record {
-  goes_on = λ more others why new t. subst (λ n. TakesPages w p s page more n why new) (omega arith) t;
+  goes_on = λ rest more others why new t. subst (λ n. TakesPages w p s rest more n why new) (omega arith) t;
   treated = record { each = λ u here. absurd here; from = λ u here. absurd here };
   grows = grows_refl w;
 }
@@ -93,7 +97,7 @@ treated_more w next p page listed more i u within is grows t keeps only mine = r
 pub pages_pass : (start : World) (p s : ℕ) (page : List Update) (i : ℕ) (w : World) (listed : List Update) (taken : ℕ) (u : Update) → PagesSo start p s page i w listed taken → i < length page → u ≡ get_or page i u
     → (IsWanted w p u → ⊥) → PagesSo start p s page (i + 1) w listed taken
 pages_pass start p s page i w listed taken u so within is never = record {
-  goes_on = λ more others why new t. so.goes_on more others why new (subst (λ l. TakesPages w p s l more others why new) (sym (drop_at page i u within is)) (inl (never, t)));
+  goes_on = λ rest more others why new t. subst (λ l. TakesPages start p s l (listed ++ more) (taken + others) why new) (take_one page i u rest within is) (so.goes_on (u ∷ rest) more others why new (inl (never, t)));
   treated = treated_more w w p page listed listed i u within is (grows_refl w) so.treated (λ v h. h) (λ v h. inl h) (inr (not_better w p u never));
   grows = so.grows;
 }
@@ -102,8 +106,8 @@ pages_pass start p s page i w listed taken u so within is never = record {
 pub pages_list : (start : World) (p s : ℕ) (page : List Update) (i : ℕ) (w : World) (listed : List Update) (taken : ℕ) (u : Update) → PagesSo start p s page i w listed taken → i < length page → u ≡ get_or page i u
     → IsWanted w p u → is_file u ≡ true → PagesSo start p s page (i + 1) w (listed ++ u ∷ []) taken
 pages_list start p s page i w listed taken u so within is wanted file = record {
-  goes_on = λ more others why new t. subst (λ l. TakesPages start p s page l (taken + others) why new) (sym (append_assoc listed (u ∷ []) more))
-      (so.goes_on (u ∷ more) others why new (subst (λ l. TakesPages w p s l (u ∷ more) others why new) (sym (drop_at page i u within is)) (inr (inl (wanted, file, more, refl, t)))));
+  goes_on = λ rest more others why new t. subst (λ l. TakesPages start p s l ((listed ++ u ∷ []) ++ more) (taken + others) why new) (take_one page i u rest within is)
+      (subst (λ l. TakesPages start p s (take i page ++ (u ∷ rest)) l (taken + others) why new) (sym (append_assoc listed (u ∷ []) more)) (so.goes_on (u ∷ rest) (u ∷ more) others why new (inr (inl (wanted, file, more, refl, t)))));
   treated = treated_more w w p page listed (listed ++ u ∷ []) i u within is (grows_refl w) so.treated (λ v h. in_before v listed (u ∷ []) h)
       (λ v h. elim (in_append v listed (u ∷ []) h) [ inl old ↦ inl old | inr (inl same) ↦ inr same | inr (inr none) ↦ absurd none ]) (inl (in_after u listed (u ∷ []) (inl refl)));
   grows = so.grows;
@@ -116,8 +120,8 @@ takes_grow w p s u new (fits, mid, send, adopt) = grows_trans w mid new (step_gr
 pub pages_take : (start : World) (p s : ℕ) (page : List Update) (i : ℕ) (w : World) (listed : List Update) (taken : ℕ) (u : Update) (next : World) → VersionsAreMade w → SentIsKnown w → PagesSo start p s page i w listed taken → i < length page
     → u ≡ get_or page i u → is_file u ≡ false → Takes w p s u next → PagesSo start p s page (i + 1) next listed (taken + 1)
 pages_take start p s page i w listed taken u next made sent so within is file takes = record {
-  goes_on = λ more others why new t. subst (λ n. TakesPages start p s page (listed ++ more) n why new) (omega arith)
-      (so.goes_on more (others + 1) why new (subst (λ l. TakesPages w p s l more (others + 1) why new) (sym (drop_at page i u within is)) (inr (inr (inl (file, next, others, takes, t, refl))))));
+  goes_on = λ rest more others why new t. subst (λ l. TakesPages start p s l (listed ++ more) ((taken + 1) + others) why new) (take_one page i u rest within is)
+      (subst (λ n. TakesPages start p s (take i page ++ (u ∷ rest)) (listed ++ more) n why new) (omega arith) (so.goes_on (u ∷ rest) more (others + 1) why new (inr (inr (inl (file, next, others, takes, t, refl))))));
   treated = treated_more w next p page listed listed i u within is (takes_grow w p s u next takes) so.treated (λ v h. h) (λ v h. inl h) (inr (
       let (fits, mid, send, adopt) = takes in
       adopted_is_held mid p u next (step_made w s (SendUpdate u) mid made sent send) (step_sent w s (SendUpdate u) mid sent send) adopt));
@@ -128,14 +132,20 @@ pages_take start p s page i w listed taken u next made sent so within is file ta
 pub pages_cut : (start : World) (p s : ℕ) (page : List Update) (i : ℕ) (w : World) (listed : List Update) (taken : ℕ) (u : Update) (count : ℕ) → PagesSo start p s page i w listed taken → i < length page → u ≡ get_or page i u
     → is_file u ≡ false → IsTooMuch w p u count → TakesPages start p s page (listed ++ []) (taken + 0) (Some (VectorFull count)) w
 pages_cut start p s page i w listed taken u count so within is file much =
-    so.goes_on [] 0 (Some (VectorFull count)) w (subst (λ l. TakesPages w p s l [] 0 (Some (VectorFull count)) w) (sym (drop_at page i u within is)) (inr (inr (inr (file, count, much, refl, refl, refl, refl)))))
+    subst (λ l. TakesPages start p s l (listed ++ []) (taken + 0) (Some (VectorFull count)) w) (take_whole page i u within is)
+    (so.goes_on (u ∷ drop (i + 1) page) [] 0 (Some (VectorFull count)) w (inr (inr (inr (file, count, much, refl, refl, refl, refl)))))
+
+-- the first are treated
+pub pages_first : (start : World) (p s : ℕ) (page : List Update) (i : ℕ) (w : World) (listed : List Update) (taken : ℕ) → PagesSo start p s page i w listed taken → BeginsPages start p s page w
+pages_first start p s page i w listed taken so = (i, listed ++ [], taken + 0, subst (λ l. TakesPages start p s l (listed ++ []) (taken + 0) None w) (append-nil (take i page)) (so.goes_on [] [] 0 None w (refl, refl, refl, refl)))
 
 -- all are treated
 pub pages_end : (start : World) (p s : ℕ) (page : List Update) (i : ℕ) (w : World) (listed : List Update) (taken : ℕ) → PagesSo start p s page i w listed taken → length page ≤ i
     → TakesPages start p s page listed taken None w × AreTreated w p page listed × Grows start w
 pages_end start p s page i w listed taken so past = (
   subst (λ n. TakesPages start p s page listed n None w) (omega arith)
-      (subst (λ l. TakesPages start p s page l (taken + 0) None w) (append-nil listed) (so.goes_on [] 0 None w (subst (λ l. TakesPages w p s l [] 0 None w) (sym (drop_end page i past)) (refl, refl, refl, refl)))),
+      (subst (λ l. TakesPages start p s page l (taken + 0) None w) (append-nil listed)
+      (subst (λ l. TakesPages start p s l (listed ++ []) (taken + 0) None w) (append-nil (take i page) ∙ take_end page i past) (so.goes_on [] [] 0 None w (refl, refl, refl, refl)))),
   subst (λ l. AreTreated w p l listed) (take_end page i past) so.treated,
   so.grows,
 )
@@ -150,13 +160,13 @@ page_can start w p s page u made pages grows here wanted =
 
 -- the first i files were treated
 pub record FilesSo (start : World) (p s : ℕ) (files : List Update) (i : ℕ) (w : World) (taken : ℕ) : Type 0 where
-  pub goes_on : (others : ℕ) (why : Option Refusal) (new : World) → TakesFiles w p s (drop i files) others why new → TakesFiles start p s files (taken + others) why new
+  pub goes_on : (rest : List Update) (others : ℕ) (why : Option Refusal) (new : World) → TakesFiles w p s rest others why new → TakesFiles start p s (take i files ++ rest) (taken + others) why new
   pub held : (u : Update) → In u (take i files) → IsHeldOrBeaten (IsRecordOf w p) u
   pub grows : Grows start w
 
 pub files_begin : (w : World) (p s : ℕ) (files : List Update) → FilesSo w p s files 0 w 0
 files_begin w p s files = record {
-  goes_on = λ others why new t. subst (λ n. TakesFiles w p s files n why new) (omega arith) t;
+  goes_on = λ rest others why new t. subst (λ n. TakesFiles w p s rest n why new) (omega arith) t;
   held = λ u here. absurd here;
   grows = grows_refl w;
 }
@@ -172,7 +182,7 @@ held_more w p files i u within is held mine v here = elim (in_append v (take i f
 pub files_pass : (start : World) (p s : ℕ) (files : List Update) (i : ℕ) (w : World) (taken : ℕ) (u : Update) → FilesSo start p s files i w taken → i < length files → u ≡ get_or files i u
     → (IsWanted w p u → ⊥) → FilesSo start p s files (i + 1) w taken
 files_pass start p s files i w taken u so within is never = record {
-  goes_on = λ others why new t. so.goes_on others why new (subst (λ l. TakesFiles w p s l others why new) (sym (drop_at files i u within is)) (inl (never, t)));
+  goes_on = λ rest others why new t. subst (λ l. TakesFiles start p s l (taken + others) why new) (take_one files i u rest within is) (so.goes_on (u ∷ rest) others why new (inl (never, t)));
   held = held_more w p files i u within is so.held (not_better w p u never);
   grows = so.grows;
 }
@@ -187,8 +197,8 @@ first_held w p s u v next made sent covered file wins (fits, mid, send, adopt) =
 pub files_take : (start : World) (p s : ℕ) (files : List Update) (i : ℕ) (w : World) (taken : ℕ) (u v : Update) (next : World) → VersionsAreMade w → SentIsKnown w → FilesSo start p s files i w taken → i < length files → u ≡ get_or files i u
     → Covered w.all (w.at s).known u → IsWanted w p u → v.uid ≡ u.uid → IsOfFile w s v → Takes w p s v next → FilesSo start p s files (i + 1) next (taken + 1)
 files_take start p s files i w taken u v next made sent so within is covered wanted file of_file takes = record {
-  goes_on = λ others why new t. subst (λ n. TakesFiles start p s files n why new) (omega arith)
-      (so.goes_on (others + 1) why new (subst (λ l. TakesFiles w p s l (others + 1) why new) (sym (drop_at files i u within is)) (inr (inr (inl (v, next, others, wanted, file, of_file, takes, t, refl))))));
+  goes_on = λ rest others why new t. subst (λ l. TakesFiles start p s l ((taken + 1) + others) why new) (take_one files i u rest within is)
+      (subst (λ n. TakesFiles start p s (take i files ++ (u ∷ rest)) n why new) (omega arith) (so.goes_on (u ∷ rest) (others + 1) why new (inr (inr (inl (v, next, others, wanted, file, of_file, takes, t, refl))))));
   held = held_more next p files i u within is (λ x here. held_stays w next p x (takes_grow w p s v next takes) (so.held x here)) (first_held w p s u v next made sent covered file of_file.0 takes);
   grows = grows_trans start w next so.grows (takes_grow w p s v next takes);
 }
@@ -197,18 +207,24 @@ files_take start p s files i w taken u v next made sent so within is covered wan
 pub files_wait : (start : World) (p s : ℕ) (files : List Update) (i : ℕ) (w : World) (taken : ℕ) (u : Update) (usn : ℕ) → FilesSo start p s files i w taken → i < length files → u ≡ get_or files i u
     → IsWanted w p u → IsLastPending w s u.uid usn → TakesFiles start p s files (taken + 0) (Some (NotYet usn)) w
 files_wait start p s files i w taken u usn so within is wanted last =
-    so.goes_on 0 (Some (NotYet usn)) w (subst (λ l. TakesFiles w p s l 0 (Some (NotYet usn)) w) (sym (drop_at files i u within is)) (inr (inl (wanted, usn, last, refl, refl, refl))))
+    subst (λ l. TakesFiles start p s l (taken + 0) (Some (NotYet usn)) w) (take_whole files i u within is) (so.goes_on (u ∷ drop (i + 1) files) 0 (Some (NotYet usn)) w (inr (inl (wanted, usn, last, refl, refl, refl))))
 
 -- its version would make too many intervals
 pub files_cut : (start : World) (p s : ℕ) (files : List Update) (i : ℕ) (w : World) (taken : ℕ) (u v : Update) (count : ℕ) → FilesSo start p s files i w taken → i < length files → u ≡ get_or files i u
     → IsWanted w p u → v.uid ≡ u.uid → IsOfFile w s v → IsTooMuch w p v count → TakesFiles start p s files (taken + 0) (Some (VectorFull count)) w
 files_cut start p s files i w taken u v count so within is wanted file of_file much =
-    so.goes_on 0 (Some (VectorFull count)) w (subst (λ l. TakesFiles w p s l 0 (Some (VectorFull count)) w) (sym (drop_at files i u within is)) (inr (inr (inr (v, count, wanted, file, of_file, much, refl, refl, refl)))))
+    subst (λ l. TakesFiles start p s l (taken + 0) (Some (VectorFull count)) w) (take_whole files i u within is)
+    (so.goes_on (u ∷ drop (i + 1) files) 0 (Some (VectorFull count)) w (inr (inr (inr (v, count, wanted, file, of_file, much, refl, refl, refl)))))
+
+-- the first are treated
+pub files_first : (start : World) (p s : ℕ) (files : List Update) (i : ℕ) (w : World) (taken : ℕ) → FilesSo start p s files i w taken → BeginsFiles start p s files w
+files_first start p s files i w taken so = (i, taken + 0, subst (λ l. TakesFiles start p s l (taken + 0) None w) (append-nil (take i files)) (so.goes_on [] 0 None w (refl, refl, refl)))
 
 pub files_end : (start : World) (p s : ℕ) (files : List Update) (i : ℕ) (w : World) (taken : ℕ) → FilesSo start p s files i w taken → length files ≤ i
     → TakesFiles start p s files taken None w × ((u : Update) → In u files → IsHeldOrBeaten (IsRecordOf w p) u) × Grows start w
 files_end start p s files i w taken so past = (
-  subst (λ n. TakesFiles start p s files n None w) (omega arith) (so.goes_on 0 None w (subst (λ l. TakesFiles w p s l 0 None w) (sym (drop_end files i past)) (refl, refl, refl))),
+  subst (λ n. TakesFiles start p s files n None w) (omega arith)
+      (subst (λ l. TakesFiles start p s l (taken + 0) None w) (append-nil (take i files) ∙ take_end files i past) (so.goes_on [] 0 None w (refl, refl, refl))),
   (λ u here. so.held u (subst (In u) (sym (take_end files i past)) here)),
   so.grows,
 )

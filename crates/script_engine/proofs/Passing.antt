@@ -148,7 +148,7 @@ files_pass w puller server (u ∷ us) taken why new h (inr (inr (inl (v, mid, ot
     let p = takes_passes w puller server v mid h took in passes_trans puller w mid new p (files_pass mid puller server us others why new p.sound rest)
 files_pass w puller server (u ∷ us) taken why new h (inr (inr (inr (v, count, wanted, file, held, much, is, zero, some)))) = subst (Passes puller w) (sym is) (passes_refl puller w h)
 
-ends_pass : (w : World) (puller : ℕ) (s : Versions) (why : Option Refusal) (new : World) → IsSoundWorld w → HasVector s → Ends w puller s why new → Passes puller w new
+pub ends_pass : (w : World) (puller : ℕ) (s : Versions) (why : Option Refusal) (new : World) → IsSoundWorld w → HasVector s → Ends w puller s why new → Passes puller w new
 ends_pass w puller s why new h vector (inl (fits, finish, none)) = passes_finish w puller s new h vector finish
 ends_pass w puller s why new h vector (inr (count, much, some, is)) = subst (Passes puller w) (sym is) (passes_refl puller w h)
 

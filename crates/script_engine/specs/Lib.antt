@@ -9,6 +9,7 @@ pub mod Trees
 pub mod Rows
 pub mod Laws
 pub mod Text
+pub mod Begun
 pub mod Sound
 pub mod Standing
 pub mod Replies

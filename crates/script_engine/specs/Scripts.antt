@@ -9,6 +9,8 @@ use Rattle.script_lang.specs.Grammar.{IsLine}
 use Rattle.script_lang.specs.declared.line.Line.{Line}
 use Rattle.world_model.specs.World.{IsRecordOf}
 use Rattle.world_model.specs.Laws.{Same}
+use Rattle.world_model.specs.Runs.{Grows}
+use Rattle.script_engine.specs.Begun.{Begins}
 use Rattle.script_engine.specs.Scene.{Scene, fresh_scene}
 use Rattle.script_engine.specs.Sound.{IsSoundScene}
 use Rattle.script_engine.specs.Text.{Does, Prints, Run}
@@ -26,6 +28,10 @@ LinesKeepScenesSound = (s : Scene) (line : Line) (text : List ℕ) (new : Scene)
 -- so do all lines of a run
 abbrev pub RunsKeepScenesSound : Type 0
 RunsKeepScenesSound = (s : Scene) (lines : List Line) (text : List ℕ) (new : Scene) → IsSoundScene s → All IsLine lines → Run s lines text new → IsSoundScene new
+
+-- so does what is begun of a line, and the world grows by it
+abbrev pub BeginningsKeepScenesSound : Type 0
+BeginningsKeepScenesSound = (s : Scene) (line : Line) (new : Scene) → IsSoundScene s → IsLine line → Begins s line new → IsSoundScene new × Grows s.world new.world
 
 -- ---- texts
 

@@ -1,5 +1,5 @@
 // The members of a script.
-ghost use Rattle.std.specs.Prelude.{◌≡◌, ◌<◌, ◌≤◌, ◌^◌, IfOk, OnOk, Some, bytes_eq, length, position, slice_get, string_bytes, true};
+ghost use Rattle.std.specs.Prelude.{◌≡◌, ◌<◌, ◌≤◌, ◌^◌, IfOk, OnErr, OnOk, Some, bytes_eq, length, position, slice_get, string_bytes, true};
 ghost use Rattle.frs_base.specs.Identifiers.{database_of};
 ghost use Rattle.folder_core.specs.Replay.{IsEarlyEvent};
 ghost use Rattle.folder_core.specs.Replay as replay;
@@ -33,13 +33,15 @@ pub struct Engine {
 }
 
 impl Engine {
-    ghost use Rattle.std.specs.Prelude.{◌+◌, ℕ};
+    ghost use Rattle.std.specs.Prelude.{◌+◌, List, ℕ};
     ghost use Rattle.script_lang.specs.Grammar.{IsLine, is_member_name};
     ghost use Rattle.script_lang.specs.declared.line.Line.TheVariants as Line;
     ghost use Rattle.world_model.specs.World.{World};
     ghost use Rattle.script_engine.specs.Named.{is_name_or_empty};
     ghost use Rattle.script_engine.specs.Text.{Does};
-    ghost use Rattle.script_engine.specs.Engines.{Answered, ConsumedAll, ConsumedNext, HasRoom, HasScene, IsWithin, Operated, Stands, consumed_by_all, count_of, made_by_all};
+    ghost use Rattle.script_engine.specs.Begun.{Begins, ConsumesSome};
+    ghost use Rattle.script_engine.specs.declared.consumed.Consumed.{Consumed};
+    ghost use Rattle.script_engine.specs.Engines.{Answered, ConsumedAll, ConsumedNext, HasRoom, HasScene, IsWithin, Operated, Stands, consumed_by_all, count_of, machines_of, made_by_all};
 
     /// An engine without members, which takes no memory.
     pub fn new() -> Engine
@@ -100,6 +102,7 @@ impl Engine {
         ensures names { self.new.names ≡ self.old.names }
         ensures many { length self.new.folders.items ≡ length self.old.folders.items }
         ensures ok { IfOk result (λ reply. Answered at event reply self.old self.new) }
+        ensures err { OnErr result (machines_of self.new ≡ machines_of self.old) }
     {
         self.folders.change(
             at,
@@ -107,6 +110,7 @@ impl Engine {
                 requires { IsEarlyEvent event }
                 ensures does { IfOk result (λ reply. replay.Does 0 event reply folder.old folder.new) }
                 ensures sound { IsSound folder.new.machine }
+                ensures err { OnErr result (folder.new ≡ folder.old) }
             {
                 let reply = folder.event(alloc, SCRIPT, event);
                 let _ = folder.book();
@@ -125,6 +129,7 @@ impl Engine {
         requires within { at < length self.old.folders.items }
         requires scene { HasScene self.old }
         ensures ok { (s : Scene) → Stands self.old s → IfOk result (λ outcome. (w : World) × Operated s.world (database_of (at + 1)) operation outcome w × Stands self.new (in_world s w)) }
+        ensures err { (s : Scene) → Stands self.old s → OnErr result (Stands self.new s) }
         ensures made { OnOk result (made_by_all self.new ≤ made_by_all self.old + 1) }
         ensures names { self.new.names ≡ self.old.names }
         ensures many { length self.new.folders.items ≡ length self.old.folders.items }
@@ -148,6 +153,7 @@ impl Engine {
         requires early { moment < 2 ^ 61 }
         requires room { made_by_all self.old < 2 ^ 60 }
         ensures ok { (s : Scene) → Stands self.old s → IfOk result (λ outcome. (w : World) × ConsumedNext s.world (database_of (at + 1)) moment outcome w × Stands self.new (in_world s w)) }
+        ensures err { (s : Scene) → Stands self.old s → OnErr result (Stands self.new s) }
         ensures made { OnOk result (made_by_all self.new ≡ made_by_all self.old) }
         ensures more { IfOk result (λ outcome. consumed_by_all self.new ≡ consumed_by_all self.old + count_of outcome) }
         ensures names { self.new.names ≡ self.old.names }
@@ -172,6 +178,7 @@ impl Engine {
         requires early { moment < 2 ^ 61 }
         requires room { made_by_all self.old < 2 ^ 60 }
         ensures ok { (s : Scene) → Stands self.old s → IfOk result (λ outcome. (w : World) × ConsumedAll s.world (database_of (at + 1)) moment outcome w × Stands self.new (in_world s w)) }
+        ensures err { (s : Scene) → Stands self.old s → OnErr result ((w : World) × (done : List Consumed) × ConsumesSome s.world (database_of (at + 1)) moment done w × Stands self.new (in_world s w)) }
         ensures made { OnOk result (made_by_all self.new ≡ made_by_all self.old) }
         ensures names { self.new.names ≡ self.old.names }
     {
@@ -190,6 +197,7 @@ impl Engine {
         requires name { is_member_name name.now ≡ true }
         requires scene { HasScene self.old }
         ensures ok { (s : Scene) → Stands self.old s → IfOk result (λ text. (new : Scene) × Does s (Line.Member name.now kind) (string_bytes text) new × Stands self.new new) }
+        ensures err { (s : Scene) → Stands self.old s → OnErr result (Stands self.new s) }
         ensures made { OnOk result (made_by_all self.new ≤ made_by_all self.old + 1) }
     {
         if self.place_of(name.as_slice()).is_some() {
@@ -213,6 +221,7 @@ impl Engine {
         requires name { is_name_or_empty name ≡ true }
         requires scene { HasScene self.old }
         ensures ok { (s : Scene) → Stands self.old s → IfOk result (λ done. Stands self.new (with_name s name kind)) }
+        ensures err { (s : Scene) → Stands self.old s → OnErr result (Stands self.new s) }
         ensures made { OnOk result (made_by_all self.new ≤ made_by_all self.old + 1) }
     {
         self.names.reserve_one(alloc)?;
@@ -227,13 +236,14 @@ impl Engine {
 
     /// Does a line, and gives what it prints.
     ///
-    /// After want of memory some of the line's events may have taken place; no further line is to be
-    /// run then.
+    /// After want of memory it stands for the world after the first of the line's events, if only
+    /// none; no further line is to be run then.
     pub fn run(&mut self, alloc: Global, line: &Line) -> Result<String, AllocError>
         requires line { IsLine line.now }
         requires scene { HasScene self.old }
         requires room { HasRoom self.old }
         ensures ok { (s : Scene) → Stands self.old s → IfOk result (λ text. (new : Scene) × Does s line.now (string_bytes text) new × Stands self.new new) }
+        ensures err { (s : Scene) → Stands self.old s → OnErr result ((new : Scene) × Begins s line.now new × Stands self.new new) }
         ensures within { (n : ℕ) → IsWithin n self.old → OnOk result (IsWithin (n + 1) self.new) }
     {
         match line {

@@ -1,6 +1,6 @@
 // Laws of the definitions.
 ghost use Rattle.script_engine.specs.Laws.{TreesAreOne, VolumesHaveTrees};
-ghost use Rattle.script_engine.specs.Scripts.{BeginningsGoOn, EqualRecords, EveryLinePrints, EveryScriptPrints, FreshScenesAreSound, LinesKeepScenesSound, LinesPrintOneText, OneText, RecordedIsCovered, RunsKeepScenesSound, RunsPrintOneText, StaysCovered};
+ghost use Rattle.script_engine.specs.Scripts.{BeginningsGoOn, BeginningsKeepScenesSound, EqualRecords, EveryLinePrints, EveryScriptPrints, FreshScenesAreSound, LinesKeepScenesSound, LinesPrintOneText, OneText, RecordedIsCovered, RunsKeepScenesSound, RunsPrintOneText, StaysCovered};
 
 /// What is reached from the root of a volume, in order of the paths, is one list.
 pub fn trees_are_one()
@@ -27,6 +27,12 @@ pub fn lines_keep_scenes_sound()
 /// So do the lines of a run, and so every scene that a run reaches is sound.
 pub fn runs_keep_scenes_sound()
     ensures { RunsKeepScenesSound }
+{}
+
+/// So does what is begun of a line when memory runs out; and what was recorded, covered or sent
+/// before stays so.
+pub fn beginnings_keep_scenes_sound()
+    ensures { BeginningsKeepScenesSound }
 {}
 
 /// A line prints one text and leads to one scene.

@@ -1,5 +1,5 @@
 // Lines that consume a member's journal.
-ghost use Rattle.std.specs.Prelude.{◌≡◌, ◌<◌, ◌≤◌, ◌+◌, ◌^◌, [], true, IfOk, OnOk, string_bytes};
+ghost use Rattle.std.specs.Prelude.{◌≡◌, ◌<◌, ◌≤◌, ◌+◌, ◌^◌, [], true, IfOk, OnErr, OnOk, string_bytes};
 ghost use Rattle.script_engine.specs.Scene.{Scene};
 ghost use Rattle.vol_state.specs.declared.operation.LocalOp.TheVariants.{Put};
 
@@ -13,6 +13,9 @@ impl Engine {
     ghost use Rattle.script_lang.specs.Grammar.{is_member_name};
     ghost use Rattle.script_engine.specs.Engines.{AtNamed, HasRoom, HasScene, Stands, made_by_all};
     ghost use Rattle.script_engine.specs.Text.{Changes, Consumes};
+    ghost use Rattle.script_engine.specs.Begun.{BeginsAt, BeginsChange};
+    ghost use Rattle.script_engine.specs.Consuming.{ConsumesOne};
+    ghost use Rattle.script_engine.specs.declared.consumed.Consumed.{Consumed};
 
     /// One journal record consumed at the member with this name.
     pub(super) fn consume_line(
@@ -26,6 +29,7 @@ impl Engine {
         requires early { moment < 2 ^ 61 }
         requires room { HasRoom self.old }
         ensures ok { (s : Scene) → Stands self.old s → IfOk result (λ text. (new : Scene) × AtNamed s name.now (λ d said after. Consumes s name.now d moment said after) (string_bytes text) new × Stands self.new new) }
+        ensures err { (s : Scene) → Stands self.old s → OnErr result ((new : Scene) × BeginsAt s name.now (λ d w. (c : Consumed) × ConsumesOne s.world d moment c w) new × Stands self.new new) }
         ensures made { OnOk result (made_by_all self.new ≤ made_by_all self.old + 1) }
     {
         let Some(at) = self.place_of(name) else {
@@ -50,6 +54,7 @@ impl Engine {
         requires early { moment < 2 ^ 61 }
         requires room { HasRoom self.old }
         ensures ok { (s : Scene) → Stands self.old s → IfOk result (λ text. (new : Scene) × AtNamed s name.now (λ d said after. Changes s name.now d (Put path.now []) moment said after) (string_bytes text) new × Stands self.new new) }
+        ensures err { (s : Scene) → Stands self.old s → OnErr result ((new : Scene) × BeginsAt s name.now (λ d w. BeginsChange s.world d (Put path.now []) moment w) new × Stands self.new new) }
         ensures made { OnOk result (made_by_all self.new ≤ made_by_all self.old + 1) }
     {
         let Some(at) = self.place_of(name) else {

@@ -1,5 +1,5 @@
 // Lines that change a member's files.
-ghost use Rattle.std.specs.Prelude.{◌≡◌, ◌<◌, ◌≤◌, ◌+◌, [], true, IfOk, OnOk, string_bytes};
+ghost use Rattle.std.specs.Prelude.{◌≡◌, ◌<◌, ◌≤◌, ◌+◌, [], true, IfOk, OnErr, OnOk, string_bytes};
 ghost use Rattle.script_engine.specs.Scene.{Scene};
 ghost use Rattle.script_engine.specs.Text.{filled};
 ghost use Rattle.vol_state.specs.declared.operation.LocalOp.TheVariants.{Mkdir, Move, Put, Remove};
@@ -111,6 +111,7 @@ impl Engine {
     ghost use Rattle.script_lang.specs.Grammar.{is_member_name};
     ghost use Rattle.script_engine.specs.Engines.{AtNamed, HasScene, Stands, made_by_all};
     ghost use Rattle.script_engine.specs.Text.{Operates};
+    ghost use Rattle.script_engine.specs.Begun.{BeginsAt, OperatesOnce};
 
     /// A local operation at the member with this name.
     pub(super) fn local(
@@ -122,6 +123,7 @@ impl Engine {
         requires name { is_member_name name.now ≡ true }
         requires scene { HasScene self.old }
         ensures ok { (s : Scene) → Stands self.old s → IfOk result (λ text. (new : Scene) × AtNamed s name.now (λ d said after. Operates s d operation said after) (string_bytes text) new × Stands self.new new) }
+        ensures err { (s : Scene) → Stands self.old s → OnErr result ((new : Scene) × BeginsAt s name.now (λ d w. OperatesOnce s.world d operation w) new × Stands self.new new) }
         ensures made { OnOk result (made_by_all self.new ≤ made_by_all self.old + 1) }
     {
         let Some(at) = self.place_of(name) else {
@@ -163,6 +165,7 @@ impl Engine {
         requires name { is_member_name name.now ≡ true }
         requires scene { HasScene self.old }
         ensures ok { (s : Scene) → Stands self.old s → IfOk result (λ text. (new : Scene) × AtNamed s name.now (λ d said after. Operates s d (Put path.now (filled length)) said after) (string_bytes text) new × Stands self.new new) }
+        ensures err { (s : Scene) → Stands self.old s → OnErr result ((new : Scene) × BeginsAt s name.now (λ d w. OperatesOnce s.world d (Put path.now (filled length)) w) new × Stands self.new new) }
         ensures made { OnOk result (made_by_all self.new ≤ made_by_all self.old + 1) }
     {
         if length > LARGEST {

@@ -1,5 +1,5 @@
 // Lines that bring a member what another one has.
-ghost use Rattle.std.specs.Prelude.{◌≡◌, ◌≢◌, ◌<◌, ◌≤◌, ◌^◌, true, IfOk, OnOk, length, string_bytes};
+ghost use Rattle.std.specs.Prelude.{◌≡◌, ◌≢◌, ◌<◌, ◌≤◌, ◌^◌, ◌⊎◌, true, IfOk, OnErr, OnOk, length, string_bytes};
 ghost use Rattle.std.specs.List.Sorted.{IsPermutation, IsSortedBy};
 ghost use Rattle.std.specs.Ordering.{is_lt};
 ghost use Rattle.frs_base.specs.Identifiers.{database_of};
@@ -86,6 +86,7 @@ impl Engine {
     ghost use Rattle.script_lang.specs.declared.line.Line.TheVariants.{Pull};
     ghost use Rattle.script_engine.specs.Engines.{HasRoom, HasScene, Stands, made_by_all};
     ghost use Rattle.script_engine.specs.Text.{Does};
+    ghost use Rattle.script_engine.specs.Begun.{Begins, BeginsFiles, BeginsPages, BeginsPull};
     ghost use Rattle.script_engine.specs.Pulls.{AreCovered, ArePages, CanTake, Ended, FetchedFrom, FilesTaken, IsPinned, MayEnd, MayFetch, MayFinish, MayPage, MayTake, PagesTaken, PullEnds, Says, Took};
 
     /// The vector and the records of the member with this place.
@@ -93,6 +94,7 @@ impl Engine {
         requires within { at < length self.old.folders.items }
         requires scene { HasScene self.old }
         ensures ok { (s : Scene) → Stands self.old s → IfOk result (λ pinned. IsPinned s.world (database_of (at + 1)) pinned × Stands self.new (in_world s (sends_vector s.world (database_of (at + 1))))) }
+        ensures err { (s : Scene) → Stands self.old s → OnErr result (Stands self.new s) }
         ensures made { OnOk result (made_by_all self.new ≡ made_by_all self.old) }
         ensures many { length self.new.folders.items ≡ length self.old.folders.items }
     {
@@ -128,6 +130,7 @@ impl Engine {
         requires may { MayTake self.old (database_of (at + 1)) from update }
         requires room { made_by_all self.old < 2 ^ 60 }
         ensures ok { (s : Scene) → Stands self.old s → CanTake s.world (database_of (at + 1)) from update → IfOk result (λ outcome. (w : World) × Took s.world (database_of (at + 1)) from update outcome w × Stands self.new (in_world s w)) }
+        ensures err { (s : Scene) → Stands self.old s → OnErr result (Stands self.new s) }
         ensures made { OnOk result (made_by_all self.new ≡ made_by_all self.old) }
         ensures many { length self.new.folders.items ≡ length self.old.folders.items }
     {
@@ -156,6 +159,7 @@ impl Engine {
         requires may { (s : Scene) × Stands self.old s × Covered s.world.all (s.world.at (database_of (at + 1))).known update.now }
         ensures ok { (s : Scene) → Stands self.old s → Covered s.world.all (s.world.at (database_of (at + 1))).known update.now
             → IfOk result (λ outcome. FetchedFrom s.world (database_of (at + 1)) update.now.uid outcome × Stands self.new s) }
+        ensures err { (s : Scene) → Stands self.old s → OnErr result (Stands self.new s) }
         ensures made { OnOk result (made_by_all self.new ≡ made_by_all self.old) }
         ensures many { length self.new.folders.items ≡ length self.old.folders.items }
     {
@@ -183,6 +187,7 @@ impl Engine {
         requires may { MayEnd self.old (database_of (at + 1)) sent seen }
         ensures ok { (s : Scene) (versions : Versions) → Stands self.old s → MayFinish s.world (database_of (at + 1)) versions sent seen
             → IfOk result (λ outcome. (w : World) × Ended s.world (database_of (at + 1)) versions outcome w × Stands self.new (in_world s w)) }
+        ensures err { (s : Scene) → Stands self.old s → OnErr result (Stands self.new s) }
         ensures made { OnOk result (made_by_all self.new ≡ made_by_all self.old) }
     {
         let event = Event::Finish {
@@ -213,6 +218,8 @@ impl Engine {
         requires room { made_by_all self.old < 2 ^ 60 }
         ensures ok { (s : Scene) → Stands self.old s → ArePages s.world from page.now
             → IfOk result (λ outcome. (w : World) × PagesTaken s.world (database_of (at + 1)) from page.now outcome w × Stands self.new (in_world s w)) }
+        ensures err { (s : Scene) → Stands self.old s → ArePages s.world from page.now
+            → OnErr result ((w : World) × BeginsPages s.world (database_of (at + 1)) from page.now w × Stands self.new (in_world s w)) }
         ensures few { IfOk result (λ outcome. IfOk outcome (λ paged. paged.taken ≤ length page.now)) }
         ensures made { OnOk result (made_by_all self.new ≡ made_by_all self.old) }
         ensures many { length self.new.folders.items ≡ length self.old.folders.items }
@@ -250,6 +257,8 @@ impl Engine {
         requires room { made_by_all self.old < 2 ^ 60 }
         ensures ok { (s : Scene) → Stands self.old s → AreCovered s.world (database_of (from + 1)) files.now
             → IfOk result (λ outcome. (w : World) × FilesTaken s.world (database_of (at + 1)) (database_of (from + 1)) files.now outcome w × Stands self.new (in_world s w)) }
+        ensures err { (s : Scene) → Stands self.old s → AreCovered s.world (database_of (from + 1)) files.now
+            → OnErr result ((w : World) × BeginsFiles s.world (database_of (at + 1)) (database_of (from + 1)) files.now w × Stands self.new (in_world s w)) }
         ensures few { IfOk result (λ outcome. IfOk outcome (λ taken. taken ≤ length files.now)) }
         ensures made { OnOk result (made_by_all self.new ≡ made_by_all self.old) }
         ensures many { length self.new.folders.items ≡ length self.old.folders.items }
@@ -286,6 +295,8 @@ impl Engine {
         requires room { made_by_all self.old < 2 ^ 60 }
         ensures ok { (s : Scene) → Stands self.old s
             → IfOk result (λ outcome. (w : World) × PullEnds s.world (database_of (at + 1)) (database_of (from + 1)) outcome w × Stands self.new (in_world s w)) }
+        ensures err { (s : Scene) → Stands self.old s
+            → OnErr result ((w : World) × ((w ≡ s.world) ⊎ BeginsPull s.world (database_of (at + 1)) (database_of (from + 1)) w) × Stands self.new (in_world s w)) }
         ensures made { OnOk result (made_by_all self.new ≡ made_by_all self.old) }
     {
         let server = self.database(from);
@@ -324,6 +335,7 @@ impl Engine {
         requires scene { HasScene self.old }
         requires room { HasRoom self.old }
         ensures ok { (s : Scene) → Stands self.old s → IfOk result (λ text. (new : Scene) × Does s (Pull name.now other.now) (string_bytes text) new × Stands self.new new) }
+        ensures err { (s : Scene) → Stands self.old s → OnErr result ((new : Scene) × Begins s (Pull name.now other.now) new × Stands self.new new) }
         ensures made { OnOk result (made_by_all self.new ≤ made_by_all self.old + 1) }
     {
         let Some(at) = self.place_of(name) else {

@@ -7,6 +7,7 @@ use Rattle.script_engine.specs.Engines.{Stands}
 use Rattle.script_engine.specs.Refusals.{refused_text}
 use Rattle.script_engine.specs.Scene.{place_of, with_name, without_name}
 use Rattle.script_engine.specs.Text.{Does}
+use Rattle.script_engine.proofs.Beginning.{on_err}
 use Rattle.script_engine.proofs.Speaking.{does_act, does_refuse, member_known, member_new}
 use Rattle.script_engine.proofs.Spoken.{place_is}
 use Rattle.script_engine.proofs.engine.Engine.add.Goals as goal
@@ -35,3 +36,9 @@ returns-clause-ok c = λ s stands.
       subst (λ t. Does s (lines.Member name kind) t (with_name s name kind)) (sym c.in_ok-text-2.ensures) (does_act s (lines.Member name kind) _ (with_name s name kind) (member_new s name kind free) (refl, refl)),
       subst (λ n. Stands c.take_number-2.new.self (with_name s n kind)) c.in_ok-copy_bytes.ensures (c.in_ok-take_number-2.ensures.ok s stands),
     )
+
+pub returns-in_err-take_number-clause-err : goal.returns-in_err-take_number-clause-err
+returns-in_err-take_number-clause-err c = λ s stands. on_err _ (c.in_err-take_number.ensures.err s stands)
+
+pub returns-in_err-take_number-2-clause-err : goal.returns-in_err-take_number-2-clause-err
+returns-in_err-take_number-2-clause-err c = λ s stands. on_err _ (c.in_err-take_number-2.ensures.err s stands)

@@ -1,6 +1,7 @@
-use Rattle.std.proofs.Common.{◌≡◌, ◌+◌, subst, None}
+use Rattle.std.proofs.Common.{◌≡◌, ◌+◌, ap, subst, None}
 use Rattle.frs_base.specs.Identifiers.{database_of}
 use Rattle.script_engine.specs.Pulls.{Took}
+use Rattle.script_engine.proofs.Beginning.{on_err, still}
 use Rattle.script_engine.proofs.Puller.{adopted_on}
 use Rattle.script_engine.proofs.engine.Engine.adopt.Goals as goal
 
@@ -21,3 +22,6 @@ pub returns-clause-made : goal.returns-clause-made
 returns-clause-made c =
     let (s, stands, can) = c.requires.may in
     (adopted_on c.args.at c.args.from c.args.entry None c.args.update c.in_ok-reply.reply c.args.self.now c.event.new.self s c.requires.room stands c.event.ensures.names c.in_ok-reply.ensures.ok can).made
+
+pub returns-in_err-reply-clause-err : goal.returns-in_err-reply-clause-err
+returns-in_err-reply-clause-err c = λ s stands. on_err _ (still c.args.self.now c.event.new.self s stands (ap (λ x. x.items) c.event.ensures.names) c.in_err-reply.ensures.err)

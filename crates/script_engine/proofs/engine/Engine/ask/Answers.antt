@@ -1,6 +1,7 @@
-use Rattle.std.proofs.Common.{◌≡◌, ◌+◌, subst}
+use Rattle.std.proofs.Common.{◌≡◌, ◌+◌, ap, subst}
 use Rattle.frs_base.specs.Identifiers.{database_of}
 use Rattle.script_engine.specs.Pulls.{IsPinned}
+use Rattle.script_engine.proofs.Beginning.{on_err, still}
 use Rattle.script_engine.proofs.Puller.{asked_on}
 use Rattle.script_engine.proofs.engine.Engine.ask.Goals as goal
 
@@ -15,3 +16,6 @@ pub returns-clause-made : goal.returns-clause-made
 returns-clause-made c =
     let (s, stands) = c.requires.scene in
     (asked_on c.args.at c.in_ok-reply.reply c.args.self.now c.event.new.self s stands c.event.ensures.names c.in_ok-reply.ensures.ok).made
+
+pub returns-in_err-reply-clause-err : goal.returns-in_err-reply-clause-err
+returns-in_err-reply-clause-err c = λ s stands. on_err _ (still c.args.self.now c.event.new.self s stands (ap (λ x. x.items) c.event.ensures.names) c.in_err-reply.ensures.err)

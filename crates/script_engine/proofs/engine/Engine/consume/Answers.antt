@@ -1,6 +1,7 @@
-use Rattle.std.proofs.Common.{◌≡◌, ◌+◌, subst}
+use Rattle.std.proofs.Common.{◌≡◌, ◌+◌, ap, subst}
 use Rattle.frs_base.specs.Identifiers.{database_of}
 use Rattle.script_engine.specs.Engines.{ConsumedNext, consumed_by_all, count_of}
+use Rattle.script_engine.proofs.Beginning.{on_err, still}
 use Rattle.script_engine.proofs.Events.{consumed_on}
 use Rattle.script_engine.proofs.engine.Engine.consume.Goals as goal
 
@@ -29,3 +30,6 @@ returns-clause-more c =
     let reads = on.reads in let said = c.consumed_of.ensures in let some = c.in-Some.is in
     let same : on.outcome ≡ c.in-Some.outcome = cc in
     subst (λ o. consumed_by_all c.event.new.self ≡ consumed_by_all c.args.self.now + count_of o) same on.more
+
+pub returns-in_err-reply-clause-err : goal.returns-in_err-reply-clause-err
+returns-in_err-reply-clause-err c = λ s stands. on_err _ (still c.args.self.now c.event.new.self s stands (ap (λ x. x.items) c.event.ensures.names) c.in_err-reply.ensures.err)

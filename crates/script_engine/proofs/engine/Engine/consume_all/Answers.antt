@@ -2,6 +2,7 @@ use Rattle.std.proofs.Common.{◌≡◌, ◌+◌, ◌++◌, ◌∷◌, [], Some,
 use Rattle.frs_base.specs.Identifiers.{database_of}
 use Rattle.script_engine.specs.Engines.{ConsumedNext, consumed_by_all, count_of, machines_of}
 use Rattle.script_engine.specs.Scene.{in_world}
+use Rattle.script_engine.proofs.Beginning.{on_err}
 use Rattle.script_engine.proofs.Events.{consumed_less}
 use Rattle.script_engine.proofs.Exhausting.{at_end, cut, last_push, one_more}
 use Rattle.script_engine.proofs.engine.Engine.consume_all.Goals as goal
@@ -50,3 +51,8 @@ returns-in-Err-clause-ok c = λ s stands.
     let outcome : c.in_ok-consumed.field-0 ≡ Err c.in-Err.refusal = c.in-Err.is in
     let refused = subst (λ o. ConsumedNext mid (database_of (c.args.at + 1)) c.args.moment o w) outcome next in
     (w, cut s.world (database_of (c.args.at + 1)) c.args.moment done mid w c.in-Err.refusal so refused, on)
+
+pub returns-in_err-consumed-clause-err : goal.returns-in_err-consumed-clause-err
+returns-in_err-consumed-clause-err c = λ s stands.
+    let (w, done, some, last, there) = c.loop-consumed.invariant.ran s stands in
+    on_err c.from_residual.result (w, done, some, c.in_err-consumed.ensures.err (in_world s w) there)

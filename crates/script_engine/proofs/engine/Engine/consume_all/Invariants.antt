@@ -2,9 +2,9 @@ use Rattle.std.proofs.Common.{◌≡◌, ◌<◌, ◌+◌, ◌-◌, List, length
 use Rattle.frs_base.specs.Identifiers.{database_of}
 use Rattle.world_model.specs.World.{World}
 use Rattle.script_engine.specs.declared.consumed.Consumed.{Consumed}
+use Rattle.script_engine.specs.Begun.{ConsumesSome}
 use Rattle.script_engine.specs.Engines.{HasScene, Stands, consumed_by_all, last_of, made_by_all}
 use Rattle.script_engine.specs.Scene.{Scene, in_world}
-use Rattle.script_engine.proofs.Exhausting.{SoFar}
 use Rattle.script_engine.proofs.engine.Engine.consume_all.Given as goal
 
 -- some were consumed, the last of which is this one
@@ -14,7 +14,7 @@ invariant-loop-consumed l = record {
   scene : HasScene l.self;
   names : l.self.names ≡ l.fn.self.names;
   made : made_by_all l.self ≡ made_by_all l.fn.self;
-  ran : (s : Scene) → Stands l.fn.self s → (w : World) × (done : List Consumed) × SoFar s.world (database_of (l.at + 1)) l.moment done w × (last_of done ≡ l.last) × Stands l.self (in_world s w);
+  ran : (s : Scene) → Stands l.fn.self s → (w : World) × (done : List Consumed) × ConsumesSome s.world (database_of (l.at + 1)) l.moment done w × (last_of done ≡ l.last) × Stands l.self (in_world s w);
 }
 
 -- what is left of the journals

@@ -1,6 +1,7 @@
-use Rattle.std.proofs.Common.{◌≡◌, ◌+◌, subst}
+use Rattle.std.proofs.Common.{◌≡◌, ◌+◌, ap, subst}
 use Rattle.frs_base.specs.Identifiers.{database_of}
 use Rattle.pinned_pages.specs.declared.answer.FileAnswer.TheVariants.{Found, NotYet, NoRecord}
+use Rattle.script_engine.proofs.Beginning.{on_err, still}
 use Rattle.script_engine.proofs.Puller.{Answers, fetched_on}
 use Rattle.script_engine.proofs.engine.Engine.fetch.Goals as goal
 
@@ -35,3 +36,6 @@ pub returns-in-Some-NotYet-clause-made : goal.returns-in-Some-NotYet-clause-made
 returns-in-Some-NotYet-clause-made c =
     let (s, stands, covered) = c.requires.may in
     (fetched_on c.args.at c.args.update.now c.in_ok-reply.reply c.args.self.now c.event.new.self s stands c.event.ensures.names c.in_ok-reply.ensures.ok covered).made
+
+pub returns-in_err-reply-clause-err : goal.returns-in_err-reply-clause-err
+returns-in_err-reply-clause-err c = λ s stands. on_err _ (still c.args.self.now c.event.new.self s stands (ap (λ x. x.items) c.event.ensures.names) c.in_err-reply.ensures.err)

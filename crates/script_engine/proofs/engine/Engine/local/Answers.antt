@@ -1,8 +1,9 @@
-use Rattle.std.proofs.Common.{◌+◌, ◌∙◌, sym, subst}
+use Rattle.std.proofs.Common.{◌+◌, ◌∙◌, sym, subst, inl, refl}
 use Rattle.frs_base.specs.Identifiers.{database_of}
 use Rattle.script_engine.specs.Engines.{Operated}
 use Rattle.script_engine.specs.Scene.{in_world}
 use Rattle.script_engine.specs.Text.{Operates}
+use Rattle.script_engine.proofs.Beginning.{named_held, on_err, operation_begun}
 use Rattle.script_engine.proofs.Spoken.{known_said, operation_done, operation_refused, unknown_said, within_held}
 use Rattle.script_engine.proofs.engine.Engine.local.Goals as goal
 
@@ -28,3 +29,21 @@ returns-in-Err-clause-ok c = λ s stands.
     let refused = subst (λ o. Operated s.world d c.args.operation o w) c.in-Err.is operated in
     known_said c.args.self.now s c.args.name.now (λ d said after. Operates s d c.args.operation said after) c.local_text.result c.in-Some.at _ (in_world s w) c.operate.new.self stands (sym c.place_of.ensures ∙ c.in-Some.is)
     c.local_text.ensures (operation_refused s d c.args.operation c.in-Err.why w refused) on
+
+pub returns-in_default-clause-err : goal.returns-in_default-clause-err
+returns-in_default-clause-err c = λ s stands. on_err c.unknown_text.result (s, inl refl, stands)
+
+pub returns-in_err-usn-clause-err : goal.returns-in_err-usn-clause-err
+returns-in_err-usn-clause-err c = λ s stands. on_err c.from_residual.result (s, inl refl, c.in_err-usn.ensures.err s stands)
+
+pub returns-in-Ok-clause-err : goal.returns-in-Ok-clause-err
+returns-in-Ok-clause-err c = λ s stands.
+    let (w, operated, on) = c.in_ok-usn.ensures.ok s stands in
+    let named = named_held c.args.self.now s c.args.name.now c.in-Some.at stands (sym c.place_of.ensures ∙ c.in-Some.is) in
+    on_err c.usn_text.result (in_world s w, operation_begun s c.args.name.now (database_of (c.in-Some.at + 1)) c.args.operation c.in_ok-usn.field-0 w named operated, on)
+
+pub returns-in-Err-clause-err : goal.returns-in-Err-clause-err
+returns-in-Err-clause-err c = λ s stands.
+    let (w, operated, on) = c.in_ok-usn.ensures.ok s stands in
+    let named = named_held c.args.self.now s c.args.name.now c.in-Some.at stands (sym c.place_of.ensures ∙ c.in-Some.is) in
+    on_err c.local_text.result (in_world s w, operation_begun s c.args.name.now (database_of (c.in-Some.at + 1)) c.args.operation c.in_ok-usn.field-0 w named operated, on)

@@ -1,6 +1,7 @@
-use Rattle.std.proofs.Common.{◌≡◌, ◌+◌, subst}
+use Rattle.std.proofs.Common.{◌≡◌, ◌+◌, ap, subst}
 use Rattle.script_engine.specs.Engines.{Operated}
 use Rattle.frs_base.specs.Identifiers.{database_of}
+use Rattle.script_engine.proofs.Beginning.{on_err, still}
 use Rattle.script_engine.proofs.Events.{operated_on}
 use Rattle.script_engine.proofs.engine.Engine.operate.Goals as goal
 
@@ -22,3 +23,6 @@ returns-clause-made c =
     let (s, stands) = c.requires.scene in
     let on = operated_on c.args.at c.args.operation c.in_ok-reply.reply c.args.self.now c.event.new.self s stands c.event.ensures.names c.in_ok-reply.ensures.ok in
     on.made
+
+pub returns-in_err-reply-clause-err : goal.returns-in_err-reply-clause-err
+returns-in_err-reply-clause-err c = λ s stands. on_err _ (still c.args.self.now c.event.new.self s stands (ap (λ x. x.items) c.event.ensures.names) c.in_err-reply.ensures.err)

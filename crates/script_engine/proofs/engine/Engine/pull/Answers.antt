@@ -1,8 +1,10 @@
-use Rattle.std.proofs.Common.{◌+◌, ◌∙◌, ap, sym, subst}
+use Rattle.std.proofs.Common.{◌+◌, ◌∙◌, ap, sym, subst, inl, inr, refl, None}
 use Rattle.frs_base.specs.Identifiers.{database_of}
 use Rattle.world_model.specs.Events.{sends_vector}
+use Rattle.script_engine.specs.Begun.{BeginsFiles, BeginsPages}
 use Rattle.script_engine.specs.Pulls.{AreCovered, ArePages, Ended, FilesTaken, MayFinish, PagesTaken}
 use Rattle.script_engine.specs.Scene.{in_world}
+use Rattle.script_engine.proofs.Beginning.{files_begun, on_err, sent_begun}
 use Rattle.script_engine.proofs.Whole.{all_taken, cut_at_end, cut_in_files, cut_in_pages, listed_covered, may_finish, pages_are, pull_asked}
 use Rattle.script_engine.proofs.engine.Engine.pull.Goals as goal
 
@@ -176,3 +178,82 @@ returns-clause-ok c = λ s stands.
     let (after, ended, on3) = c.in_ok-finish.ensures.ok (in_world s filed) (s.world.at e).known on2 seen in
     let ends = subst (λ o. Ended filed p (s.world.at e).known o after) c.in-Err-3.is ended in
     (after, cut_at_end s.world p e page c.in-Ok.paged paged c.in-Ok-2.fetched filed c.in-Err-3.refusal after asked all1 all2 ends, on3)
+
+pub returns-in_err-pinned-clause-err : goal.returns-in_err-pinned-clause-err
+returns-in_err-pinned-clause-err c = λ s stands. on_err c.from_residual.result (s.world, inl refl, c.in_err-pinned.ensures.err s stands)
+
+pub returns-in_err-page-clause-err : goal.returns-in_err-page-clause-err
+returns-in_err-page-clause-err c = λ s stands.
+    let p = database_of (c.args.at + 1) in
+    let e = database_of (c.args.from + 1) in
+    let sent = sends_vector s.world e in
+    let (is, on) = c.in_ok-pinned.ensures.ok s stands in
+    on_err c.from_residual-in_err-page.result (sent, inr (sent_begun s.world p e stands.machines.scene.world.invariant.versions), on)
+
+pub returns-in_err-paged-clause-err : goal.returns-in_err-paged-clause-err
+returns-in_err-paged-clause-err c = λ s stands.
+    let p = database_of (c.args.at + 1) in
+    let e = database_of (c.args.from + 1) in
+    let sent = sends_vector s.world e in
+    let (is, on) = c.in_ok-pinned.ensures.ok s stands in
+    let pinned = c.in_ok-pinned.pinned in
+    let page = c.in_ok-page.page.items in
+    let server = c.database-server.ensures in
+    let vector = c.vector.ensures.vector ∙ ap (λ b. b.vector) c.book.ensures.book in
+    let asked = pull_asked c.args.self.now c.ask.new.self s c.args.at e pinned c.folder.result.now c.vector.result.now c.as_slice.result.now page stands on is c.folder.ensures vector c.as_slice.ensures.records c.in_ok-page.ensures in
+    let pages = pages_are s.world p e page asked in
+    let given = subst (ArePages sent c.database-server.result) (sym c.deref.ensures.value) (subst (λ n. ArePages sent n page) (sym server) pages) in
+    let (w, begun, there) = c.in_err-paged.ensures.err (in_world s sent) on given in
+    let first = subst (λ n. BeginsPages sent p n page w) server (subst (λ l. BeginsPages sent p c.database-server.result l w) c.deref.ensures.value begun) in
+    on_err c.from_residual-in_err-paged.result (w, inr (sent, page, refl, asked, inl first), there)
+
+pub returns-in_err-fetched-clause-err : goal.returns-in_err-fetched-clause-err
+returns-in_err-fetched-clause-err c = λ s stands.
+    let p = database_of (c.args.at + 1) in
+    let e = database_of (c.args.from + 1) in
+    let sent = sends_vector s.world e in
+    let (is, on) = c.in_ok-pinned.ensures.ok s stands in
+    let pinned = c.in_ok-pinned.pinned in
+    let page = c.in_ok-page.page.items in
+    let server = c.database-server.ensures in
+    let vector = c.vector.ensures.vector ∙ ap (λ b. b.vector) c.book.ensures.book in
+    let asked = pull_asked c.args.self.now c.ask.new.self s c.args.at e pinned c.folder.result.now c.vector.result.now c.as_slice.result.now page stands on is c.folder.ensures vector c.as_slice.ensures.records c.in_ok-page.ensures in
+    let pages = pages_are s.world p e page asked in
+    let given = subst (ArePages sent c.database-server.result) (sym c.deref.ensures.value) (subst (λ n. ArePages sent n page) (sym server) pages) in
+    let (paged, took, on1) = c.in_ok-paged.ensures.ok (in_world s sent) on given in
+    let took1 = subst (λ n. PagesTaken sent p n page c.in_ok-paged.field-0 paged) server (subst (λ l. PagesTaken sent p c.database-server.result l c.in_ok-paged.field-0 paged) c.deref.ensures.value took) in
+    let all1 = subst (λ o. PagesTaken sent p e page o paged) c.in-Ok.is took1 in
+    let (pages_took, treated, grown) = all1 in
+    let listed = c.in-Ok.paged.listed.items in
+    let covered = listed_covered s.world p e page listed paged asked treated grown in
+    let files = subst (AreCovered paged e) (sym c.deref-2.ensures.value) covered in
+    let (w, begun, there) = c.in_err-fetched.ensures.err (in_world s paged) on1 files in
+    let first = subst (λ l. BeginsFiles paged p e l w) c.deref-2.ensures.value begun in
+    on_err c.from_residual-in_err-fetched.result (w, inr (sent, page, refl, asked, inr (listed, c.in-Ok.paged.taken, paged, pages_took, inl first)), there)
+
+pub returns-in_err-finish-clause-err : goal.returns-in_err-finish-clause-err
+returns-in_err-finish-clause-err c = λ s stands.
+    let p = database_of (c.args.at + 1) in
+    let e = database_of (c.args.from + 1) in
+    let sent = sends_vector s.world e in
+    let (is, on) = c.in_ok-pinned.ensures.ok s stands in
+    let pinned = c.in_ok-pinned.pinned in
+    let page = c.in_ok-page.page.items in
+    let server = c.database-server.ensures in
+    let vector = c.vector.ensures.vector ∙ ap (λ b. b.vector) c.book.ensures.book in
+    let asked = pull_asked c.args.self.now c.ask.new.self s c.args.at e pinned c.folder.result.now c.vector.result.now c.as_slice.result.now page stands on is c.folder.ensures vector c.as_slice.ensures.records c.in_ok-page.ensures in
+    let pages = pages_are s.world p e page asked in
+    let given = subst (ArePages sent c.database-server.result) (sym c.deref.ensures.value) (subst (λ n. ArePages sent n page) (sym server) pages) in
+    let (paged, took, on1) = c.in_ok-paged.ensures.ok (in_world s sent) on given in
+    let took1 = subst (λ n. PagesTaken sent p n page c.in_ok-paged.field-0 paged) server (subst (λ l. PagesTaken sent p c.database-server.result l c.in_ok-paged.field-0 paged) c.deref.ensures.value took) in
+    let all1 = subst (λ o. PagesTaken sent p e page o paged) c.in-Ok.is took1 in
+    let (pages_took, treated, grown) = all1 in
+    let listed = c.in-Ok.paged.listed.items in
+    let covered = listed_covered s.world p e page listed paged asked treated grown in
+    let files = subst (AreCovered paged e) (sym c.deref-2.ensures.value) covered in
+    let (filed, got, on2) = c.in_ok-fetched.ensures.ok (in_world s paged) on1 files in
+    let got2 = subst (λ l. FilesTaken paged p e l c.in_ok-fetched.field-0 filed) c.deref-2.ensures.value got in
+    let all2 = subst (λ o. FilesTaken paged p e listed o filed) c.in-Ok-2.is got2 in
+    let (files_took, held, more) = all2 in
+    let all = files_begun paged p e listed c.in-Ok-2.fetched None filed files_took in
+    on_err c.from_residual-in_err-finish.result (filed, inr (sent, page, refl, asked, inr (listed, c.in-Ok.paged.taken, paged, pages_took, inl all)), c.in_err-finish.ensures.err (in_world s filed) on2)

@@ -5,7 +5,8 @@ use Rattle.script_engine.specs.Engines.{Stands, made_by_all}
 use Rattle.script_engine.specs.Pulling.{TakesFiles}
 use Rattle.script_engine.specs.Pulls.{CanTake, FetchedFrom, Took}
 use Rattle.script_engine.specs.Scene.{in_world}
-use Rattle.script_engine.proofs.Paging.{FilesSo, file_can, files_covered, files_cut, files_end, files_pass, files_take, files_wait, in_place}
+use Rattle.script_engine.proofs.Beginning.{on_err}
+use Rattle.script_engine.proofs.Paging.{FilesSo, file_can, files_covered, files_cut, files_end, files_first, files_pass, files_take, files_wait, in_place}
 use Rattle.script_engine.proofs.Puller.{said_no, said_yes}
 use Rattle.script_engine.proofs.engine.Engine.take_files.Goals as goal
 use Rattle.script_engine.proofs.engine.Engine.take_files.Goals.{then-wants+in_ok-fetched+in-Ok+in_ok-refusal+in_default, else-wants}
@@ -121,3 +122,22 @@ returns-clause-ok c = λ s stands covered.
     let e = database_of (c.args.from + 1) in
     let (w, so, on) = c.loop-file.invariant.ran s stands covered in
     (w, files_end s.world p e c.args.files.now c.loop-file.file-index w c.loop-file.taken so (let past = c.loop-file-test.false in omega (arith, past)), on)
+
+pub returns-in_err-fetched-clause-err : goal.returns-in_err-fetched-clause-err
+returns-in_err-fetched-clause-err c = λ s stands covered.
+    let p = database_of (c.args.at + 1) in
+    let e = database_of (c.args.from + 1) in
+    let (w, so, on) = c.loop-file.invariant.ran s stands covered in
+    on_err c.from_residual.result (w, files_first s.world p e c.args.files.now c.loop-file.file-index w c.loop-file.taken so, c.in_err-fetched.ensures.err (in_world s w) on)
+
+pub returns-in_err-refusal-clause-err : goal.returns-in_err-refusal-clause-err
+returns-in_err-refusal-clause-err c = λ s stands covered.
+    let p = database_of (c.args.at + 1) in
+    let e = database_of (c.args.from + 1) in
+    let files = c.args.files.now in
+    let i = c.loop-file.file-index in
+    let u = c.file-item.result in
+    let (w, so, on) = c.loop-file.invariant.ran s stands covered in
+    let known = files_covered s.world w e files u covered so.grows (in_place files i u c.loop-file-test.true c.file-item.is) in
+    let (fetched, there) = c.in_ok-fetched.ensures.ok (in_world s w) on known in
+    on_err c.from_residual-in_err-refusal.result (w, files_first s.world p e files i w c.loop-file.taken so, c.in_err-refusal.ensures.err (in_world s w) there)

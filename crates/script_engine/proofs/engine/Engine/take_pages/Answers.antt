@@ -6,7 +6,8 @@ use Rattle.script_engine.specs.Engines.{Stands, made_by_all}
 use Rattle.script_engine.specs.Pulling.{TakesPages}
 use Rattle.script_engine.specs.Pulls.{CanTake, Took}
 use Rattle.script_engine.specs.Scene.{in_world}
-use Rattle.script_engine.proofs.Paging.{PagesSo, in_place, page_can, pages_cut, pages_end, pages_list, pages_pass, pages_take}
+use Rattle.script_engine.proofs.Beginning.{on_err}
+use Rattle.script_engine.proofs.Paging.{PagesSo, in_place, page_can, pages_cut, pages_end, pages_first, pages_list, pages_pass, pages_take}
 use Rattle.script_engine.proofs.Puller.{said_no, said_yes}
 use Rattle.script_engine.proofs.engine.Engine.take_pages.Goals as goal
 use Rattle.script_engine.proofs.engine.Engine.take_pages.Goals.{then-wants+then-is_file+in_ok-copy+in_ok-push, then-wants+else-is_file+in_ok-update+in_ok-refusal+in_default, else-wants}
@@ -119,3 +120,23 @@ returns-clause-ok c = λ s stands pages.
     let p = database_of (c.args.at + 1) in
     let (w, so, on) = c.loop-update.invariant.ran s stands pages in
     (w, pages_end s.world p c.args.from c.args.page.now c.loop-update.update-index w c.loop-update.listed.items c.loop-update.taken so (let past = c.loop-update-test.false in omega (arith, past)), on)
+
+pub returns-in_err-copy-clause-err : goal.returns-in_err-copy-clause-err
+returns-in_err-copy-clause-err c = λ s stands pages.
+    let (w, so, on) = c.loop-update.invariant.ran s stands pages in
+    on_err c.from_residual.result (w, pages_first s.world (database_of (c.args.at + 1)) c.args.from c.args.page.now c.loop-update.update-index w c.loop-update.listed.items c.loop-update.taken so, on)
+
+pub returns-in_err-push-clause-err : goal.returns-in_err-push-clause-err
+returns-in_err-push-clause-err c = λ s stands pages.
+    let (w, so, on) = c.loop-update.invariant.ran s stands pages in
+    on_err c.from_residual-in_err-push.result (w, pages_first s.world (database_of (c.args.at + 1)) c.args.from c.args.page.now c.loop-update.update-index w c.loop-update.listed.items c.loop-update.taken so, on)
+
+pub returns-in_err-update-clause-err : goal.returns-in_err-update-clause-err
+returns-in_err-update-clause-err c = λ s stands pages.
+    let (w, so, on) = c.loop-update.invariant.ran s stands pages in
+    on_err c.from_residual-in_err-update.result (w, pages_first s.world (database_of (c.args.at + 1)) c.args.from c.args.page.now c.loop-update.update-index w c.loop-update.listed.items c.loop-update.taken so, on)
+
+pub returns-in_err-refusal-clause-err : goal.returns-in_err-refusal-clause-err
+returns-in_err-refusal-clause-err c = λ s stands pages.
+    let (w, so, on) = c.loop-update.invariant.ran s stands pages in
+    on_err c.from_residual-in_err-refusal.result (w, pages_first s.world (database_of (c.args.at + 1)) c.args.from c.args.page.now c.loop-update.update-index w c.loop-update.listed.items c.loop-update.taken so, c.in_err-refusal.ensures.err (in_world s w) on)
