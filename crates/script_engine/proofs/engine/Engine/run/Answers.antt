@@ -4,7 +4,7 @@ use Rattle.vol_state.specs.declared.operation.LocalOp.TheVariants as op
 use Rattle.script_lang.specs.declared.line.Line.TheVariants as lines
 use Rattle.script_engine.specs.Engines.{Stands}
 use Rattle.script_engine.specs.Scene.{Scene}
-use Rattle.script_engine.specs.Text.{Changes, Consumes, Counts, Does, Operates, PrintsTree, Shows, filled}
+use Rattle.script_engine.specs.Text.{Changes, Consumes, Counts, Does, Operates, PrintsSums, PrintsTree, Shows, filled}
 use Rattle.script_engine.proofs.Speaking.{named_line, printed_line}
 use Rattle.script_engine.proofs.engine.Engine.run.Goals as goal
 
@@ -66,6 +66,12 @@ returns-in-Tree-clause-ok c = λ s stands.
     let name = c.as_slice-in-Tree.result.now in
     printed_line s (lines.Tree name) c.args.line.now name (λ d said after. PrintsTree s d said × (after ≡ s)) c.tree.result c.args.self.now
     (ap lines.Tree c.as_slice-in-Tree.ensures ∙ sym c.in-Tree.is) refl refl (λ d text named o. (d, named, o.0, o.1)) stands (c.tree.ensures s stands)
+
+pub returns-in-Sums-clause-ok : goal.returns-in-Sums-clause-ok
+returns-in-Sums-clause-ok c = λ s stands.
+    let name = c.as_slice-in-Sums.result.now in
+    printed_line s (lines.Sums name) c.args.line.now name (λ d said after. PrintsSums s d said × (after ≡ s)) c.sums.result c.args.self.now
+    (ap lines.Sums c.as_slice-in-Sums.ensures ∙ sym c.in-Sums.is) refl refl (λ d text named o. (d, named, o.0, o.1)) stands (c.sums.ensures s stands)
 
 pub returns-in-Count-clause-ok : goal.returns-in-Count-clause-ok
 returns-in-Count-clause-ok c = λ s stands.
