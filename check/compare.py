@@ -18,7 +18,7 @@ COMPONENTS = ["a", "A", "b", "B", "c", "z", "Z", "a!", "~", "ab", "aB", "x" * 25
 TEXTS = ["", "hi", " two  words ", "x" * 30, "\u00e9\u4e2d", "\r", "\0"]
 LENGTHS = [0, 1, 250, 251, 252, 1_048_576, 1_048_577, 4_294_967_295]
 KINDS = "put fill mkdir mkdir move move remove remove consume consume consume change change".split()
-KINDS += "pull pull pull show tree count member comment".split()
+KINDS += "pull pull pull show tree sums count member comment".split()
 FLAWS = ["  ", " ", "\t", "\r", "0", "+", "-", "/", "\\", "#", "\u00e9", "x" * 256, "a/" * 64, "2305843009213693952"]
 
 
@@ -69,7 +69,7 @@ class Writer:
     def script(self):
         members = [self.member(name) for name in self.names if self.random.random() < 0.85]
         rows = members + [self.row() for _ in range(self.random.randint(1, 120))]
-        rows += [f"{kind} {name}" for name in self.names for kind in ("show", "tree", "count")]
+        rows += [f"{kind} {name}" for name in self.names for kind in ("show", "tree", "sums", "count")]
         text = "\n".join(rows) + self.random.choice(["", "\n"])
         if self.random.random() < 0.1:
             at = self.random.randrange(len(text) + 1)

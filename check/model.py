@@ -2,7 +2,9 @@
 
 It is written for being read, not for speed: sets, dictionaries and whole lists.
 """
+import hashlib
 import re
+import struct
 
 ROOT = ("root",)
 LARGEST_SCRIPT, MOST_MEMBERS, LARGEST_FILE = 16_777_216, 8, 1_048_576
@@ -14,7 +16,7 @@ NUMBER = "(?:0|[1-9][0-9]*)"
 LINE = re.compile(
     f"member {MEMBER} (?:primary|plain)|put {MEMBER} {PATH} .*|fill {MEMBER} {PATH} {NUMBER}"
     f"|(?:mkdir|remove) {MEMBER} {PATH}|move {MEMBER} {PATH} {PATH}|consume {MEMBER} {NUMBER}"
-    f"|change {MEMBER} {PATH} {NUMBER}|pull {MEMBER} {MEMBER}|(?:show|tree|count) {MEMBER}",
+    f"|change {MEMBER} {PATH} {NUMBER}|pull {MEMBER} {MEMBER}|(?:show|tree|sums|count) {MEMBER}",
     re.DOTALL,
 )
 LIMITS = {"fill": 2**32, "consume": 2**61, "change": 2**61}
@@ -45,6 +47,12 @@ def rows_of(script):
 def fold(name):
     """The name with A to Z as a to z."""
     return "".join(chr(ord(c) + 32) if "A" <= c <= "Z" else c for c in name)
+
+
+def sum_of(data):
+    """The SHA-1, in hexadecimal digits, of the marshalled form of a local file with these contents."""
+    head = struct.pack("<4sIIIQIIIQ", b"FRSM", 1, 1, 0, 4, 0x20, 2, 0, len(data))
+    return hashlib.sha1(head + data).hexdigest()
 
 
 class Obj:
@@ -300,6 +308,9 @@ class World:
         if cmd == "tree":
             found = sorted(((v.path(o), o) for o in v.objects.values()), key=lambda p: p[0])
             return [("d " + "/".join(p)) if o.kind == "d" else f"f {'/'.join(p)} {len(o.data)}" for p, o in found] or ["tree empty"]
+        if cmd == "sums":
+            files = sorted(((v.path(o), o.data) for o in v.objects.values() if o.kind == "f"), key=lambda p: p[0])
+            return [f"{sum_of(data)} {'/'.join(path)}" for path, data in files] or ["sums empty"]
         if cmd == "count":
             live = sum(u["present"] for u in m.records.values())
             files = sum(o.kind == "f" for o in v.objects.values())

@@ -36,6 +36,7 @@ Lines, of words parted by one space:
   pull M N                 M takes what N covers, and what wins of it
   show M                   prints what a member covers, and its records
   tree M                   prints a member's volume from its root
+  sums M                   prints the sum of each file of a member's volume
   count M                  prints how much a member has
 Empty lines and lines that begin with # print nothing.
 

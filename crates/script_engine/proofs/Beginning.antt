@@ -129,6 +129,7 @@ nothing_begun s (lines.Change name path moment) = inl refl
 nothing_begun s (lines.Pull name other) = inl refl
 nothing_begun s (lines.Show name) = refl
 nothing_begun s (lines.Tree name) = refl
+nothing_begun s (lines.Sums name) = refl
 nothing_begun s (lines.Count name) = refl
 
 -- what was begun at a member is begun of its line

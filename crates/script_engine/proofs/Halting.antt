@@ -74,4 +74,5 @@ begins_keep s (lines.Change name path moment) new h form b = at_passes s name _ 
 begins_keep s (lines.Pull name other) new h form b = at_passes s name _ new h (λ puller w (server, there, apart, pull). pull_passes s.world puller server w h.world pull) b
 begins_keep s (lines.Show name) new h form is = stays s new h is
 begins_keep s (lines.Tree name) new h form is = stays s new h is
+begins_keep s (lines.Sums name) new h form is = stays s new h is
 begins_keep s (lines.Count name) new h form is = stays s new h is

@@ -1,4 +1,5 @@
 mod Texts
+mod Summed
 mod Members
 mod Ordered
 mod Climbing

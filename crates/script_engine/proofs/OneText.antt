@@ -25,8 +25,8 @@ use Rattle.script_engine.specs.Refusals.{first_refusal}
 use Rattle.script_engine.specs.declared.consumed.Consumed.{Consumed}
 use Rattle.script_engine.specs.Consuming.{ConsumesAll}
 use Rattle.script_engine.specs.Pulling.{Pulls}
-use Rattle.script_engine.specs.Trees.{tree_text}
-use Rattle.script_engine.specs.Text.{Acts, Changes, Consumes, Counts, IsRefused, Operates, PrintsTree, Run, Shows, count_text, filled, last_text, left_by, text_unless, usn_text}
+use Rattle.script_engine.specs.Trees.{files_of, sums_text, tree_text}
+use Rattle.script_engine.specs.Text.{Acts, Changes, Consumes, Counts, IsRefused, Operates, PrintsSums, PrintsTree, Run, Shows, count_text, filled, last_text, left_by, text_unless, usn_text}
 use Rattle.script_engine.specs.Scripts.{LinesPrintOneText, OneText, RunsPrintOneText}
 use Rattle.script_engine.proofs.Once.{consumes_all_one, next_by, next_one, pulls_one}
 use Rattle.script_engine.proofs.Sorting.{one_tree}
@@ -102,6 +102,9 @@ shows_one s d a b (vector, records, v, l, said) (vector', records', v', l', said
 tree_one : (s : Scene) (d : ℕ) (a b : List ℕ) → PrintsTree s d a → PrintsTree s d b → a ≡ b
 tree_one s d a b (rows, is, said) (rows', is', said') = said ∙ ap tree_text (one_tree (s.world.at d).volume rows rows' is is') ∙ sym said'
 
+sums_one : (s : Scene) (d : ℕ) (a b : List ℕ) → PrintsSums s d a → PrintsSums s d b → a ≡ b
+sums_one s d a b (rows, is, said) (rows', is', said') = said ∙ ap (λ rows. sums_text (files_of rows)) (one_tree (s.world.at d).volume rows rows' is is') ∙ sym said'
+
 counts_one : (s : Scene) (d : ℕ) (a b : List ℕ) → Counts s d a → Counts s d b → a ≡ b
 counts_one s d a b (vector, records, rows, v, l, is, said) (vector', records', rows', v', l', is', said') =
     let same = vector_one (s.world.at d).known vector vector' v v' in
@@ -131,6 +134,7 @@ acts_one s (lines.Pull name other) a b m n h form (p, q, taken, why, w, at, from
     (said ∙ unless_one why why' _ _ same.refusal (λ none. ap (λ x. printed (codes "pulled" ∷ decimal x ∷ [])) (same.told none)) ∙ sym said', is ∙ ap (in_world s) same.world ∙ sym is')
 acts_one s (lines.Show name) a b m n h form (d, at, shows, is) (d', at', shows', is') = (shows_one s d a b shows (subst (λ x. Shows s x b) (named_one s name d' d at' at) shows'), is ∙ sym is')
 acts_one s (lines.Tree name) a b m n h form (d, at, shows, is) (d', at', shows', is') = (tree_one s d a b shows (subst (λ x. PrintsTree s x b) (named_one s name d' d at' at) shows'), is ∙ sym is')
+acts_one s (lines.Sums name) a b m n h form (d, at, shows, is) (d', at', shows', is') = (sums_one s d a b shows (subst (λ x. PrintsSums s x b) (named_one s name d' d at' at) shows'), is ∙ sym is')
 acts_one s (lines.Count name) a b m n h form (d, at, shows, is) (d', at', shows', is') = (counts_one s d a b shows (subst (λ x. Counts s x b) (named_one s name d' d at' at) shows'), is ∙ sym is')
 
 pub does_one : LinesPrintOneText

@@ -24,7 +24,7 @@ use Rattle.script_engine.specs.Printed.{printed}
 use Rattle.script_engine.specs.declared.refusal.Refusal.{Refusal}
 use Rattle.script_engine.specs.declared.refusal.Refusal.TheVariants.{Itself, Local, Unknown}
 use Rattle.script_engine.specs.Refusals.{first_refusal, refused_text, unless_named}
-use Rattle.script_engine.specs.Trees.{IsTreeOf, Row, tree_text}
+use Rattle.script_engine.specs.Trees.{IsTreeOf, Row, files_of, sums_text, tree_text}
 use Rattle.script_engine.specs.Text.{Acts, Changes, Consumes, Does, IsRefused, Operates, count_text, filled, last_text, left_by, text_unless, usn_text}
 use Rattle.script_engine.specs.Scripts.{EveryLinePrints}
 use Rattle.script_engine.proofs.Going.{consumes_all_some, consumes_next_some, pulls_some}
@@ -134,6 +134,10 @@ acts_some s (lines.Tree name) h form e =
     let (d, named) = named_some s name e in
     let (rows, is) = tree_some s d h in
     (tree_text rows, s, (d, named, (rows, is, refl), refl))
+acts_some s (lines.Sums name) h form e =
+    let (d, named) = named_some s name e in
+    let (rows, is) = tree_some s d h in
+    (sums_text (files_of rows), s, (d, named, (rows, is, refl), refl))
 acts_some s (lines.Count name) h form e =
     let (d, named) = named_some s name e in
     let (vector, v) = h.world.vectors d in

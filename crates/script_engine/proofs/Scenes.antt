@@ -175,6 +175,7 @@ acts_follow s P (lines.Pull name other) text new h form f (puller, server, taken
     subst P (sym is) (f.further name puller w named (pulls_pass s.world puller server taken why w h.world pulls))
 acts_follow s P (lines.Show name) text new h form f (d, named, shows, is) = subst P (sym is) f.same
 acts_follow s P (lines.Tree name) text new h form f (d, named, shows, is) = subst P (sym is) f.same
+acts_follow s P (lines.Sums name) text new h form f (d, named, shows, is) = subst P (sym is) f.same
 acts_follow s P (lines.Count name) text new h form f (d, named, shows, is) = subst P (sym is) f.same
 
 -- what a refused line leaves follows
@@ -190,6 +191,7 @@ left_follows s P (lines.Change name path moment) f = f.same
 left_follows s P (lines.Pull name other) f = f.same
 left_follows s P (lines.Show name) f = f.same
 left_follows s P (lines.Tree name) f = f.same
+left_follows s P (lines.Sums name) f = f.same
 left_follows s P (lines.Count name) f = f.same
 
 pub does_follow : (s : Scene) (P : Scene → Type 0) (line : Line) (text : List ℕ) (new : Scene) → IsSoundScene s → IsLine line → Follows s P → Does s line text new → P new

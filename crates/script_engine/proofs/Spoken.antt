@@ -24,8 +24,8 @@ use Rattle.script_engine.specs.Engines.{AtNamed, ConsumedAll, ConsumedNext, Oper
 use Rattle.script_engine.specs.Refusals.{first_refusal, refused_text, unless_named}
 use Rattle.script_engine.specs.Scene.{IsNamed, Scene, in_world, numbered, place_of}
 use Rattle.script_engine.specs.Standing.{MachineStands}
-use Rattle.script_engine.specs.Text.{Acts, Changes, Consumes, Counts, Does, IsRefused, Operates, PrintsTree, Shows, count_text, filled, last_text, left_by, records_text, usn_text, vector_text}
-use Rattle.script_engine.specs.Trees.{IsTreeOf, Row, tree_text}
+use Rattle.script_engine.specs.Text.{Acts, Changes, Consumes, Counts, Does, IsRefused, Operates, PrintsSums, PrintsTree, Shows, count_text, filled, last_text, left_by, records_text, usn_text, vector_text}
+use Rattle.script_engine.specs.Trees.{IsTreeOf, Row, files_of, sums_text, tree_text}
 use Rattle.script_engine.specs.Widening.{IsVectorOf}
 use Rattle.script_engine.proofs.Consumption.{maps_are}
 use Rattle.script_engine.proofs.Pairs.{get_map}
@@ -168,6 +168,10 @@ shown e s name at f text h some found is =
 pub treed : (e : Engine) (s : Scene) (at : ℕ) (f : Seen) (text : List ℕ) → Stands e s → slice_get e.folders.items at ≡ Some f → (rows : List Row) × IsTreeOf (maps_of f.machine.volume) rows × (text ≡ tree_text rows)
     → PrintsTree s (database_of (at + 1)) text × (s ≡ s)
 treed e s at f text h found (rows, tree, is) = ((rows, tree_of _ s.world.all _ f.machine rows (machine_held e s at f h found) tree, is), refl)
+
+pub summed : (e : Engine) (s : Scene) (at : ℕ) (f : Seen) (text : List ℕ) → Stands e s → slice_get e.folders.items at ≡ Some f
+    → (rows : List Row) × IsTreeOf (maps_of f.machine.volume) rows × (text ≡ sums_text (files_of rows)) → PrintsSums s (database_of (at + 1)) text × (s ≡ s)
+summed e s at f text h found (rows, tree, is) = ((rows, tree_of _ s.world.all _ f.machine rows (machine_held e s at f h found) tree, is), refl)
 
 pub counted : (e : Engine) (s : Scene) (at : ℕ) (f : Seen) (rows : List Row) (text : List ℕ) → Stands e s → slice_get e.folders.items at ≡ Some f → IsTreeOf (maps_of f.machine.volume) rows
     → text ≡ count_text f.machine.book.records rows f.machine.book.vector → Counts s (database_of (at + 1)) text × (s ≡ s)

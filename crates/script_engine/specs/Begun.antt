@@ -73,4 +73,5 @@ Begins s (lines.Pull name other) new =
     BeginsAt s name (λ puller w. (server : ℕ) × IsNamed s other server × (bytes_eq name other ≡ false) × BeginsPull s.world puller server w) new
 Begins s (lines.Show name) new = new ≡ s
 Begins s (lines.Tree name) new = new ≡ s
+Begins s (lines.Sums name) new = new ≡ s
 Begins s (lines.Count name) new = new ≡ s

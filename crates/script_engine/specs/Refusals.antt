@@ -52,4 +52,5 @@ first_refusal s (lines.Pull name other) =
     else Some (Unknown name)
 first_refusal s (lines.Show name) = unless_named s name
 first_refusal s (lines.Tree name) = unless_named s name
+first_refusal s (lines.Sums name) = unless_named s name
 first_refusal s (lines.Count name) = unless_named s name

@@ -23,7 +23,7 @@ use Rattle.script_engine.specs.Refusals.{first_refusal, refused_text}
 use Rattle.script_engine.specs.Widening.{IsVectorOf}
 use Rattle.script_engine.specs.Consuming.{ConsumesAll, ConsumesNext}
 use Rattle.script_engine.specs.Pulling.{Pulls}
-use Rattle.script_engine.specs.Trees.{IsTreeOf, Row, files_in, tree_text}
+use Rattle.script_engine.specs.Trees.{IsTreeOf, Row, files_in, files_of, sums_text, tree_text}
 
 -- ---- what is printed
 
@@ -105,6 +105,10 @@ Shows s d text = (vector : List Interval) × (records : List Update) × IsVector
 abbrev pub PrintsTree : Scene → ℕ → List ℕ → Type 0
 PrintsTree s d text = (rows : List Row) × IsTreeOf (s.world.at d).volume rows × (text ≡ tree_text rows)
 
+-- the sums of the files that are reached
+abbrev pub PrintsSums : Scene → ℕ → List ℕ → Type 0
+PrintsSums s d text = (rows : List Row) × IsTreeOf (s.world.at d).volume rows × (text ≡ sums_text (files_of rows))
+
 -- how much it has
 abbrev pub Counts : Scene → ℕ → List ℕ → Type 0
 Counts s d text = (vector : List Interval) × (records : List Update) × (rows : List Row) × IsVectorOf (s.world.at d).known vector × Lists (IsRecordOf s.world d) records
@@ -127,6 +131,7 @@ Acts s (lines.Pull name other) text new =
     × Pulls s.world puller server taken why w × (text ≡ text_unless why (printed (codes "pulled" ∷ decimal taken ∷ []))) × (new ≡ in_world s w)
 Acts s (lines.Show name) text new = (d : ℕ) × IsNamed s name d × Shows s d text × (new ≡ s)
 Acts s (lines.Tree name) text new = (d : ℕ) × IsNamed s name d × PrintsTree s d text × (new ≡ s)
+Acts s (lines.Sums name) text new = (d : ℕ) × IsNamed s name d × PrintsSums s d text × (new ≡ s)
 Acts s (lines.Count name) text new = (d : ℕ) × IsNamed s name d × Counts s d text × (new ≡ s)
 
 -- what a refused line leaves: everything as it was, but that a `member` line took its number
@@ -142,6 +147,7 @@ left_by s (lines.Change name path moment) = s
 left_by s (lines.Pull name other) = s
 left_by s (lines.Show name) = s
 left_by s (lines.Tree name) = s
+left_by s (lines.Sums name) = s
 left_by s (lines.Count name) = s
 
 -- a line prints its first refusal and leaves what a refused line leaves, or acts

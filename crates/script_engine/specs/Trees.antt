@@ -1,12 +1,14 @@
 -- The tree of a volume, as it is printed.
-use Rattle.std.specs.Prelude.{◌≡◌, ◌==◌, ◌&&◌, ◌||◌, nat_lt, ℕ, suc, Bool, true, false, List, [], ◌∷◌, codes, decimal, flat_map, length, map}
+use Rattle.std.specs.Prelude.{◌≡◌, ◌==◌, ◌&&◌, ◌||◌, nat_lt, ℕ, suc, Bool, true, false, not, List, [], ◌∷◌, codes, decimal, filter, flat_map, length, map}
 use Rattle.std.specs.List.{AllByRecursion, join_with_byte}
 use Rattle.frs_base.specs.Options.{In}
 use Rattle.frs_base.specs.declared.kind.Kind.{Kind}
 use Rattle.frs_base.specs.declared.kind.Kind.TheVariants.{File, Directory}
 use Rattle.vol_state.specs.declared.object.Object.{Object}
 use Rattle.vol_state.specs.Maps.{Maps}
+use Rattle.vol_state.specs.Places.{is_directory}
 use Rattle.name_rules.specs.Tree.{StandsAt}
+use Rattle.hex.specs.Hex.{encode_lower}
 use Rattle.script_engine.specs.Printed.{name_word, printed}
 
 -- a name is the lower by its units
@@ -61,6 +63,19 @@ row_text row = printed (row_words row.object.kind row.path row.object.bytes)
 abbrev pub tree_text : List Row → List ℕ
 tree_text [] = printed (codes "tree" ∷ codes "empty" ∷ [])
 tree_text (row ∷ rows) = flat_map row_text (row ∷ rows)
+
+-- the rows that are files
+abbrev pub files_of : List Row → List Row
+files_of rows = filter (λ row. not (is_directory row.object.kind)) rows
+
+-- the line of a file's sum: its bytes as lower-case hexadecimal digits, and the path
+abbrev pub sum_text : Row → List ℕ
+sum_text row = printed (encode_lower row.object.sum.0 ∷ path_word row.path ∷ [])
+
+-- what `sums` prints of the files
+abbrev pub sums_text : List Row → List ℕ
+sums_text [] = printed (codes "sums" ∷ codes "empty" ∷ [])
+sums_text (row ∷ rows) = flat_map sum_text (row ∷ rows)
 
 -- how many of the rows are files
 abbrev pub files_in : List Row → ℕ

@@ -272,6 +272,7 @@ impl Engine {
             Line::Pull { name, other } => self.pull_line(alloc, name.as_slice(), other.as_slice()),
             Line::Show { name } => self.show(alloc, name.as_slice()),
             Line::Tree { name } => self.tree(alloc, name.as_slice()),
+            Line::Sums { name } => self.sums(alloc, name.as_slice()),
             Line::Count { name } => self.count(alloc, name.as_slice()),
         }
     }

@@ -11,6 +11,7 @@ mod records;
 mod refusal;
 mod replies;
 mod rows;
+mod sums;
 mod tree;
 mod words;
 
@@ -26,6 +27,7 @@ pub use names::MemberName;
 pub use records::records_text;
 pub use refusal::Refusal;
 pub use rows::{TreeRow, tree_rows};
+pub use sums::sums_text;
 pub use tree::tree_text;
 
 #[cfg(test)]

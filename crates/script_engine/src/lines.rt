@@ -1,4 +1,4 @@
-// What lines print, but for `show`, `tree` and `count`.
+// What lines print, but for `show`, `tree`, `sums` and `count`.
 ghost use Rattle.std.specs.Prelude.{◌≡◌, ◌∷◌, [], true, IfOk, codes, decimal, option_to_list, string_bytes};
 ghost use Rattle.script_lang.specs.Grammar.{is_member_name};
 ghost use Rattle.script_engine.specs.Named.{HasName};

@@ -99,6 +99,42 @@ fn trees_print_in_order_of_their_paths(rt: HostRuntime) -> Result<(), Fail> {
     Ok(())
 }
 
+/// The rows of a volume, and the paths of its files, in order of the lists of names.
+const FILES: [(&str, &str); 3] = [
+    ("file 0 a! 12\ndir 0 a\nfile 2 b 123", "a/b\na!\n"),
+    (
+        "dir 0 z\ndir 1 y\nfile 2 x 1\nfile 1 f 1\nfile 0 ab 1\nfile 0 Z \nfile 0 a 1",
+        "Z\na\nab\nz/f\nz/y/x\n",
+    ),
+    ("dir 0 d\nfile 1 x 1\nfile 0 z 1\npark 1", "z\n"),
+];
+
+#[test]
+fn sums_print_files_in_order_of_their_paths(rt: HostRuntime) -> Result<(), Fail> {
+    for (rows, want) in FILES {
+        let volume = volume_of(rt.alloc(), rows)?;
+        let text = sums_text(rt.alloc(), &volume)?;
+        let mut paths = String::new(rt.alloc());
+        for line in text.lines() {
+            let (digits, path) = line.split_once(' ').ok_or("no path")?;
+            assert_eq!(rt; digits.len(), 40);
+            paths.push_str(path)?;
+            paths.push('\n')?;
+        }
+        assert_eq!(rt; paths.as_str(), want);
+    }
+    Ok(())
+}
+
+#[test]
+fn sums_of_no_files(rt: HostRuntime) -> Result<(), Fail> {
+    for rows in ["", "dir 0 d", "dir 0 d\nfile 1 x 1\npark 1"] {
+        let volume = volume_of(rt.alloc(), rows)?;
+        assert_eq!(rt; sums_text(rt.alloc(), &volume)?.as_str(), "sums empty\n");
+    }
+    Ok(())
+}
+
 #[test]
 fn rows_have_paths_and_objects(rt: HostRuntime) -> Result<(), Fail> {
     let volume = volume_of(rt.alloc(), "dir 0 a\nfile 1 b 12")?;

@@ -12,7 +12,7 @@ use std::alloc::{AllocError, Global};
 use vol_state::Volume;
 
 /// A path as text: its names, with `/` between.
-fn path_word(alloc: Global, path: &[&Name]) -> Result<String, AllocError>
+pub(crate) fn path_word(alloc: Global, path: &[&Name]) -> Result<String, AllocError>
     ensures { IfOk result (λ text. string_bytes text ≡ path_word (map (λ name. name.now) path.now)) }
 {
     let Some((first, rest)) = path.split_first() else {

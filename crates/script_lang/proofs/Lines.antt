@@ -8,7 +8,7 @@ use Rattle.std.proofs.lemmas.Str.{IsCharBoundary-after_ascii, IsUtf8-drop}
 use Rattle.script_lang.specs.declared.errors.RowError.{RowError}
 use Rattle.script_lang.specs.declared.errors.RowError.TheVariants.{Bad, Memory}
 use Rattle.script_lang.specs.declared.line.Line.{Line}
-use Rattle.script_lang.specs.declared.line.Line.TheVariants.{Member, Put, Fill, Mkdir, Move, Remove, Consume, Change, Pull, Show, Tree, Count}
+use Rattle.script_lang.specs.declared.line.Line.TheVariants.{Member, Put, Fill, Mkdir, Move, Remove, Consume, Change, Pull, Show, Tree, Sums, Count}
 use Rattle.script_lang.specs.declared.words.Keyword.{Keyword}
 use Rattle.script_lang.specs.declared.words.Keyword.TheVariants as keyword
 use Rattle.script_lang.specs.Grammar.{HasNoLineFeed, IsLine, IsText, is_member_name, is_path, kind_word, length_limit, moment_limit, path_word, spelling, words}
@@ -46,6 +46,7 @@ taken line made ws e valid is = let same : made ≡ line = cc in subst (λ l. Ta
 two_by : (k : Keyword) (a name : List ℕ) (line : Line) → is_member_name name ≡ true → a ≡ name → two_words k name ≡ Some line → Takes line (keyword_word k ∷ a ∷ [])
 two_by keyword.Show a name line valid is e = taken line (Show name) _ e valid (λ i. codes "show" ∷ is i ∷ [])
 two_by keyword.Tree a name line valid is e = taken line (Tree name) _ e valid (λ i. codes "tree" ∷ is i ∷ [])
+two_by keyword.Sums a name line valid is e = taken line (Sums name) _ e valid (λ i. codes "sums" ∷ is i ∷ [])
 two_by keyword.Count a name line valid is e = taken line (Count name) _ e valid (λ i. codes "count" ∷ is i ∷ [])
 two_by _ a name line valid is e = absurd (cc)
 
@@ -152,6 +153,7 @@ again (Pull name other) (valid, form) =
     ap (λ o. o >>= three_words keyword.Pull other) (name_again name valid) ∙ ap (λ o. o >>= λ n. Some (Pull name n)) (name_again other form)
 again (Show name) valid = ap (λ o. o >>= two_words keyword.Show) (name_again name valid)
 again (Tree name) valid = ap (λ o. o >>= two_words keyword.Tree) (name_again name valid)
+again (Sums name) valid = ap (λ o. o >>= two_words keyword.Sums) (name_again name valid)
 again (Count name) valid = ap (λ o. o >>= two_words keyword.Count) (name_again name valid)
 
 -- ---- a spelling is cut into the line's words
@@ -177,6 +179,7 @@ parted (Change name path moment) (valid, form, below) = cut_four (codes "change"
 parted (Pull name other) (valid, form) = cut_three (codes "pull") name other (literal (codes "pull") refl) (name_whole name valid) (name_whole other form)
 parted (Show name) valid = cut_two (codes "show") name (literal (codes "show") refl) (name_whole name valid)
 parted (Tree name) valid = cut_two (codes "tree") name (literal (codes "tree") refl) (name_whole name valid)
+parted (Sums name) valid = cut_two (codes "sums") name (literal (codes "sums") refl) (name_whole name valid)
 parted (Count name) valid = cut_two (codes "count") name (literal (codes "count") refl) (name_whole name valid)
 
 -- a spelling is read as its line

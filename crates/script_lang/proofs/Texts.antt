@@ -12,7 +12,7 @@ use Rattle.std.proofs.lemmas.Str.Parse.{digit_at}
 use Rattle.frs_base.specs.declared.kind.MemberKind.{MemberKind}
 use Rattle.frs_base.specs.declared.kind.MemberKind.TheVariants.{Primary, Plain}
 use Rattle.script_lang.specs.declared.line.Line.{Line}
-use Rattle.script_lang.specs.declared.line.Line.TheVariants.{Member, Put, Fill, Mkdir, Move, Remove, Consume, Change, Pull, Show, Tree, Count}
+use Rattle.script_lang.specs.declared.line.Line.TheVariants.{Member, Put, Fill, Mkdir, Move, Remove, Consume, Change, Pull, Show, Tree, Sums, Count}
 use Rattle.script_lang.specs.Grammar.{IsLine, IsText, is_component, is_member_name, is_path, is_path_byte, is_small_letter, kind_word, path_word, spelling, words}
 use Rattle.script_lang.proofs.Numbers.{own}
 use Rattle.script_lang.proofs.Values.{component_bytes, components, halves}
@@ -84,6 +84,7 @@ words_are_text (Change name path moment) (valid, form, below) = (literal_text (c
 words_are_text (Pull name other) (valid, form) = (literal_text (codes "pull") refl, (name_is_text name valid, (name_is_text other form, tt)))
 words_are_text (Show name) valid = (literal_text (codes "show") refl, (name_is_text name valid, tt))
 words_are_text (Tree name) valid = (literal_text (codes "tree") refl, (name_is_text name valid, tt))
+words_are_text (Sums name) valid = (literal_text (codes "sums") refl, (name_is_text name valid, tt))
 words_are_text (Count name) valid = (literal_text (codes "count") refl, (name_is_text name valid, tt))
 
 -- a spelling is text within one row

@@ -38,6 +38,7 @@ keyword_word keyword.Change = codes "change"
 keyword_word keyword.Pull = codes "pull"
 keyword_word keyword.Show = codes "show"
 keyword_word keyword.Tree = codes "tree"
+keyword_word keyword.Sums = codes "sums"
 keyword_word keyword.Count = codes "count"
 
 -- one test of a chain: it passes and gives its keyword, or the rest of the chain does
@@ -62,7 +63,8 @@ keyword_takes word k e =
     (one_test word (codes "pull") keyword.Pull _ k refl
     (one_test word (codes "show") keyword.Show _ k refl
     (one_test word (codes "tree") keyword.Tree _ k refl
-    (one_test word (codes "count") keyword.Count None k refl (λ none. absurd (cc))))))))))))) e
+    (one_test word (codes "sums") keyword.Sums _ k refl
+    (one_test word (codes "count") keyword.Count None k refl (λ none. absurd (cc)))))))))))))) e
 
 -- ---- names and kinds
 

@@ -4,7 +4,7 @@ use Rattle.std.specs.List.{join_with_byte, list_all}
 use Rattle.frs_base.specs.declared.kind.MemberKind.{MemberKind}
 use Rattle.frs_base.specs.declared.kind.MemberKind.TheVariants.{Primary, Plain}
 use Rattle.script_lang.specs.declared.line.Line.{Line}
-use Rattle.script_lang.specs.declared.line.Line.TheVariants.{Member, Put, Fill, Mkdir, Move, Remove, Consume, Change, Pull, Show, Tree, Count}
+use Rattle.script_lang.specs.declared.line.Line.TheVariants.{Member, Put, Fill, Mkdir, Move, Remove, Consume, Change, Pull, Show, Tree, Sums, Count}
 
 -- ---- values in form
 
@@ -69,6 +69,7 @@ words (Change name path moment) = codes "change" ∷ name ∷ path_word path ∷
 words (Pull name other) = codes "pull" ∷ name ∷ other ∷ []
 words (Show name) = codes "show" ∷ name ∷ []
 words (Tree name) = codes "tree" ∷ name ∷ []
+words (Sums name) = codes "sums" ∷ name ∷ []
 words (Count name) = codes "count" ∷ name ∷ []
 
 -- what a line spells: its words, parted by one space
@@ -88,4 +89,5 @@ IsLine (Change name path moment) = (is_member_name name ≡ true) × (is_path pa
 IsLine (Pull name other) = (is_member_name name ≡ true) × (is_member_name other ≡ true)
 IsLine (Show name) = is_member_name name ≡ true
 IsLine (Tree name) = is_member_name name ≡ true
+IsLine (Sums name) = is_member_name name ≡ true
 IsLine (Count name) = is_member_name name ≡ true

@@ -7,7 +7,7 @@ use Rattle.frs_base.specs.declared.kind.MemberKind.TheVariants.{Primary, Plain}
 use Rattle.script_lang.specs.declared.errors.RowError.{RowError}
 use Rattle.script_lang.specs.declared.errors.RowError.TheVariants.{Bad, Memory}
 use Rattle.script_lang.specs.declared.line.Line.{Line}
-use Rattle.script_lang.specs.declared.line.Line.TheVariants.{Member, Put, Fill, Mkdir, Move, Remove, Consume, Change, Pull, Show, Tree, Count}
+use Rattle.script_lang.specs.declared.line.Line.TheVariants.{Member, Put, Fill, Mkdir, Move, Remove, Consume, Change, Pull, Show, Tree, Sums, Count}
 use Rattle.script_lang.specs.declared.words.Keyword.{Keyword}
 use Rattle.script_lang.specs.declared.words.Keyword.TheVariants as keyword
 use Rattle.script_lang.specs.Grammar.{IsLine, is_member_name, is_path, length_limit, moment_limit, spelling}
@@ -55,8 +55,9 @@ keyword_in word =
     else (if bytes_eq word (codes "pull") then Some keyword.Pull
     else (if bytes_eq word (codes "show") then Some keyword.Show
     else (if bytes_eq word (codes "tree") then Some keyword.Tree
+    else (if bytes_eq word (codes "sums") then Some keyword.Sums
     else (if bytes_eq word (codes "count") then Some keyword.Count
-    else None)))))))))))
+    else None))))))))))))
 
 -- the kind of member that a word spells
 abbrev pub kind_in : List ℕ → Option MemberKind
@@ -87,6 +88,7 @@ number_in limit word =
 abbrev pub two_words : Keyword → List ℕ → Option Line
 two_words keyword.Show name = Some (Show name)
 two_words keyword.Tree name = Some (Tree name)
+two_words keyword.Sums name = Some (Sums name)
 two_words keyword.Count name = Some (Count name)
 two_words _ name = None
 

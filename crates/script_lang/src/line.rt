@@ -89,6 +89,11 @@ pub enum Line {
         /// The member.
         name: Bytes,
     },
+    /// `sums M`: prints the sums of the files of a member's volume.
+    Sums {
+        /// The member.
+        name: Bytes,
+    },
     /// `count M`: prints how much a member has.
     Count {
         /// The member.

@@ -128,6 +128,7 @@ pub fn print(alloc: Global, line: &Line) -> Result<String, AllocError>
         Line::Pull { name, other } => three_words(alloc, "pull", name, name_text(other)),
         Line::Show { name } => two_words(alloc, "show", name),
         Line::Tree { name } => two_words(alloc, "tree", name),
+        Line::Sums { name } => two_words(alloc, "sums", name),
         Line::Count { name } => two_words(alloc, "count", name),
     }
 }

@@ -25,6 +25,7 @@ fn line_of_two(alloc: Global, keyword: Keyword, name: &str) -> Result<Line, RowE
     match keyword {
         Keyword::Show => Ok(Line::Show { name }),
         Keyword::Tree => Ok(Line::Tree { name }),
+        Keyword::Sums => Ok(Line::Sums { name }),
         Keyword::Count => Ok(Line::Count { name }),
         _ => Err(RowError::Bad),
     }

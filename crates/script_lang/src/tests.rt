@@ -5,7 +5,7 @@ use std::process::Abort;
 use std::test::Fail;
 
 /// Scripts, and how many lines each has.
-const GOOD: [(&str, usize); 40] = [
+const GOOD: [(&str, usize); 41] = [
     ("", 0),
     ("\n", 0),
     ("\n\n\n", 0),
@@ -41,6 +41,7 @@ const GOOD: [(&str, usize); 40] = [
     ("pull a a", 1),
     ("show a", 1),
     ("tree a", 1),
+    ("sums a", 1),
     ("count a", 1),
     ("#show\nshow a\n# x\nshow b", 2),
     ("member a primary\nmember b plain\nshow a\n", 3),
@@ -49,7 +50,7 @@ const GOOD: [(&str, usize); 40] = [
 ];
 
 /// Bytes with a row outside the grammar, and the number of the first.
-const BAD: [(&[u8], u64); 40] = [
+const BAD: [(&[u8], u64); 44] = [
     (b"show", 1),
     (b"show ", 1),
     (b"show a ", 1),
@@ -63,6 +64,10 @@ const BAD: [(&[u8], u64); 40] = [
     (b"show A", 1),
     (b"show a1", 1),
     (b"show a b", 1),
+    (b"sums", 1),
+    (b"sums a b", 1),
+    (b"sums  a", 1),
+    (b"sum a", 1),
     (b"\xef\xbb\xbfshow a", 1),
     (b" # x", 1),
     (b"  ", 1),
@@ -164,6 +169,8 @@ fn members_are_read_and_printed(rt: HostRuntime) -> Result<(), Fail> {
     expect_row(&rt, alloc, "show z", Line::Show { name })?;
     let name = bytes_of(alloc, "z")?;
     expect_row(&rt, alloc, "tree z", Line::Tree { name })?;
+    let name = bytes_of(alloc, "z")?;
+    expect_row(&rt, alloc, "sums z", Line::Sums { name })?;
     let name = bytes_of(alloc, "z")?;
     expect_row(&rt, alloc, "count z", Line::Count { name })
 }

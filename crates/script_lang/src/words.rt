@@ -25,6 +25,7 @@ pub enum Keyword {
     Pull,
     Show,
     Tree,
+    Sums,
     Count,
 }
 
@@ -44,6 +45,7 @@ pub fn keyword_in(word: &str) -> Option<Keyword>
         "pull" => Some(Keyword::Pull),
         "show" => Some(Keyword::Show),
         "tree" => Some(Keyword::Tree),
+        "sums" => Some(Keyword::Sums),
         "count" => Some(Keyword::Count),
         _ => None,
     }

@@ -66,6 +66,11 @@ fn short_scripts(rt: HostRuntime) -> Result<(), Fail> {
         ("member a plain\nmember b plain\n", "ok\nok\n"),
         ("show a\n", "refused 1 unknown a\n"),
         ("member a plain\nshow a\n", "ok\nvector empty\n"),
+        ("sums a\n", "refused 1 unknown a\n"),
+        (
+            "member a plain\nmkdir a d\nsums a\n",
+            "ok\nusn 9\nsums empty\n",
+        ),
         (
             "member a plain\nmember a primary\n",
             "ok\nrefused 2 exists a\n",
@@ -265,3 +270,4 @@ fn other_words(rt: HostRuntime) -> Result<(), Fail> {
 
 mod changes;
 mod pulls;
+mod sums;

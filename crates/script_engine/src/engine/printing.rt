@@ -6,13 +6,13 @@ use super::Engine;
 use crate::count::count_text;
 use crate::lines::unknown_text;
 use crate::records::vector_text;
-use crate::{records_text, tree_rows, tree_text};
+use crate::{records_text, sums_text, tree_rows, tree_text};
 use std::alloc::{AllocError, Global};
 
 impl Engine {
     ghost use Rattle.script_lang.specs.Grammar.{is_member_name};
     ghost use Rattle.script_engine.specs.Engines.{AtNamed, HasScene, Stands};
-    ghost use Rattle.script_engine.specs.Text.{Counts, PrintsTree, Shows};
+    ghost use Rattle.script_engine.specs.Text.{Counts, PrintsSums, PrintsTree, Shows};
 
     /// What the member with this name covers, and its records.
     pub(super) fn show(&self, alloc: Global, name: &[u8]) -> Result<String, AllocError>
@@ -40,6 +40,18 @@ impl Engine {
         match self.place_of(name) {
             None => unknown_text(alloc, name),
             Some(at) => tree_text(alloc, self.folder(at).volume()),
+        }
+    }
+
+    /// The sums of the files in the volume of the member with this name.
+    pub(super) fn sums(&self, alloc: Global, name: &[u8]) -> Result<String, AllocError>
+        requires name { is_member_name name.now ≡ true }
+        requires scene { HasScene self.now }
+        ensures { (s : Scene) → Stands self.now s → IfOk result (λ text. AtNamed s name.now (λ d said after. PrintsSums s d said × (after ≡ s)) (string_bytes text) s) }
+    {
+        match self.place_of(name) {
+            None => unknown_text(alloc, name),
+            Some(at) => sums_text(alloc, self.folder(at).volume()),
         }
     }
 

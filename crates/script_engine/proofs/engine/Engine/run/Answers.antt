@@ -8,7 +8,7 @@ use Rattle.script_engine.specs.Begun.{Begins, BeginsAt, BeginsChange, OperatesOn
 use Rattle.script_engine.specs.Consuming.{ConsumesOne}
 use Rattle.script_engine.specs.Engines.{Stands}
 use Rattle.script_engine.specs.Scene.{Scene}
-use Rattle.script_engine.specs.Text.{Changes, Consumes, Counts, Does, Operates, PrintsTree, Shows, filled}
+use Rattle.script_engine.specs.Text.{Changes, Consumes, Counts, Does, Operates, PrintsSums, PrintsTree, Shows, filled}
 use Rattle.script_engine.proofs.Beginning.{line_begun, nothing_begun, on_err}
 use Rattle.script_engine.proofs.Speaking.{named_line, printed_line}
 use Rattle.script_engine.proofs.engine.Engine.run.Goals as goal
@@ -71,6 +71,12 @@ returns-in-Tree-clause-ok c = λ s stands.
     let name = c.as_slice-in-Tree.result.now in
     printed_line s (lines.Tree name) c.args.line.now name (λ d said after. PrintsTree s d said × (after ≡ s)) c.tree.result c.args.self.now
     (ap lines.Tree c.as_slice-in-Tree.ensures ∙ sym c.in-Tree.is) refl refl (λ d text named o. (d, named, o.0, o.1)) stands (c.tree.ensures s stands)
+
+pub returns-in-Sums-clause-ok : goal.returns-in-Sums-clause-ok
+returns-in-Sums-clause-ok c = λ s stands.
+    let name = c.as_slice-in-Sums.result.now in
+    printed_line s (lines.Sums name) c.args.line.now name (λ d said after. PrintsSums s d said × (after ≡ s)) c.sums.result c.args.self.now
+    (ap lines.Sums c.as_slice-in-Sums.ensures ∙ sym c.in-Sums.is) refl refl (λ d text named o. (d, named, o.0, o.1)) stands (c.sums.ensures s stands)
 
 pub returns-in-Count-clause-ok : goal.returns-in-Count-clause-ok
 returns-in-Count-clause-ok c = λ s stands.
@@ -145,6 +151,9 @@ returns-in-Show-clause-err c = λ s stands. on_err c.show.result (s, nothing_beg
 
 pub returns-in-Tree-clause-err : goal.returns-in-Tree-clause-err
 returns-in-Tree-clause-err c = λ s stands. on_err c.tree.result (s, nothing_begun s c.args.line.now, stands)
+
+pub returns-in-Sums-clause-err : goal.returns-in-Sums-clause-err
+returns-in-Sums-clause-err c = λ s stands. on_err c.sums.result (s, nothing_begun s c.args.line.now, stands)
 
 pub returns-in-Count-clause-err : goal.returns-in-Count-clause-err
 returns-in-Count-clause-err c = λ s stands. on_err c.count.result (s, nothing_begun s c.args.line.now, stands)
