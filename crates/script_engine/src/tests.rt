@@ -103,8 +103,8 @@ fn trees_print_in_order_of_their_paths(rt: HostRuntime) -> Result<(), Fail> {
 const FILES: [(&str, &str); 3] = [
     ("file 0 a! 12\ndir 0 a\nfile 2 b 123", "a/b\na!\n"),
     (
-        "dir 0 z\ndir 1 y\nfile 2 x 1\nfile 1 f 1\nfile 0 ab 1\nfile 0 Z \nfile 0 a 1",
-        "Z\na\nab\nz/f\nz/y/x\n",
+        "dir 0 z\ndir 1 y\nfile 2 x 1\nfile 1 f 1\nfile 0 ab 1\nfile 0 Y \nfile 0 a 1",
+        "Y\na\nab\nz/f\nz/y/x\n",
     ),
     ("dir 0 d\nfile 1 x 1\nfile 0 z 1\npark 1", "z\n"),
 ];
