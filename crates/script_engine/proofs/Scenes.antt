@@ -22,6 +22,7 @@ use Rattle.world_model.specs.Events.{Step, Local as LocalEvent}
 use Rattle.world_model.specs.Invariant.{Invariant, IsSound}
 use Rattle.world_model.proofs.Changing.{at_each, at_other}
 use Rattle.world_model.proofs.Fresh.{fresh_sound}
+use Rattle.world_model.proofs.Sums.{member_sums}
 use Rattle.world_model.proofs.Versions.{same_consumed}
 use Rattle.script_engine.specs.Scene.{Scene, IsNamed, in_world, with_name}
 use Rattle.script_engine.specs.Sound.{AreLists, IsNobodys, IsSoundScene}
@@ -86,6 +87,7 @@ kind_world w d kind h =
       members = at_each (λ j y. IsSound w.all j y) w.at d x (kind_sound w.all d (w.at d) kind (h.members d)) (λ j n. h.members j);
       files = record { kinds = h.files.kinds; made = λ u a. subst (λ n. u.uid.version < n) (sym (same u.uid.db)) (h.files.made u a); no_root = h.files.no_root };
       clocks = h.clocks;
+      sums = member_sums w d x h.sums (h.sums.objects d);
     }
 
 abbrev HasVolume : ℕ → Member → Type 0

@@ -165,7 +165,7 @@ made_kind own base moment Known Records x e held u kind inside is_held is of_hel
 -- ---- a record that makes an update
 
 -- the hash of a present file is the object's sum
-file_sum : (u : Update) (k : Kind) (sum : Sum) → is_file u ≡ true → kind_of u ≡ k → u.hash ≡ (if is_directory_kind k then no_sum else sum) → u.hash ≡ sum
+pub file_sum : (u : Update) (k : Kind) (sum : Sum) → is_file u ≡ true → kind_of u ≡ k → u.hash ≡ (if is_directory_kind k then no_sum else sum) → u.hash ≡ sum
 file_sum u File sum i k h = h
 file_sum u Directory sum i k h = absurd (go u.present (is_directory u) k i)
   where

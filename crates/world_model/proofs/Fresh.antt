@@ -49,4 +49,5 @@ fresh_sound kinds = record {
   };
   files = record { kinds = λ u v a b k. absurd a; made = λ u a. absurd a; no_root = λ u a. absurd a };
   clocks = record { fences = λ u a. absurd a; clocks = λ u a. absurd a };
+  sums = record { objects = λ d f o a. absurd (none_some o a); hashes = λ u a i. absurd a };
 }

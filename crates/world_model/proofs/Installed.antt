@@ -1,8 +1,9 @@
 -- What a step of the installer keeps.
-use Rattle.std.proofs.Common.{◌≡◌, ◌≢◌, ◌≤◌, ◌⊎◌, ℕ, Bool, true, false, not, ◌&&◌, List, refl, sym, ap, ◌∙◌, subst, arith, inl, inr, Option, Some, None}
+use Rattle.std.proofs.Common.{◌≡◌, ◌≢◌, ◌≤◌, ◌⊎◌, ℕ, Bool, true, false, cond, not, ◌&&◌, List, refl, sym, ap, ◌∙◌, subst, arith, inl, inr, Option, Some, None}
 use Rattle.std.specs.Prelude.{unwrap_or}
 use Rattle.std.proofs.lemmas.Bool.{cases_eq}
 use Rattle.frs_base.specs.declared.kind.Kind.{Kind}
+use Rattle.frs_base.specs.declared.kind.Kind.TheVariants.{Directory, File}
 use Rattle.frs_base.specs.declared.version.Uid.{Uid}
 use Rattle.win_order.specs.Order.{is_directory}
 use Rattle.win_order.specs.declared.update.Update.{Update}
@@ -35,6 +36,23 @@ file_present u e = go u.present e
     go : (b : Bool) → (b && not (is_directory u)) ≡ true → b ≡ true
     go true e = refl
     go false e = absurd (cc)
+
+-- and no directory
+pub file_split : (u : Update) → is_file u ≡ true → is_directory u ≡ false
+file_split u e = go u.present (is_directory u) e
+  where
+    go : (p d : Bool) → (p && not d) ≡ true → d ≡ false
+    go p false e = refl
+    go true true e = absurd (true_false false e refl)
+    go false true e = absurd (true_false false e refl)
+
+-- a present file is of the kind of files
+pub file_kind : (u : Update) → is_file u ≡ true → kind_of u ≡ File
+file_kind u is = go (is_directory u) (file_split u is)
+  where
+    go : (d : Bool) → d ≡ false → cond d Directory File ≡ File
+    go false e = refl
+    go true e = absurd (true_false true refl e)
 
 -- it is quiet after a step of the installer
 quiet_now : (x : Member) (f : ℕ) (o : Option Object) (e : VolRecord) → IsQuiet x.consumed x.volume → e.local ≡ false → (n : ℕ) (d : VolRecord) → x.consumed ≤ n

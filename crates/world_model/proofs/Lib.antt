@@ -9,6 +9,7 @@ pub mod Installed
 pub mod Consumed
 pub mod Adopted
 pub mod Folder
+pub mod Sums
 pub mod Growth
 pub mod Versions
 pub mod Puts

@@ -1,8 +1,8 @@
 -- Each next step of the installer meets the condition of its operation.
-use Rattle.std.proofs.Common.{◌≡◌, ◌≢◌, ◌≤◌, ◌⊎◌, ℕ, zero, suc, Bool, true, false, cond, not, ◌&&◌, List, [], length, refl, sym, ap, ◌∙◌, subst, arith, inl, inr, Option, Some, None}
+use Rattle.std.proofs.Common.{◌≡◌, ◌≢◌, ◌≤◌, ◌⊎◌, ℕ, zero, suc, Bool, true, false, not, ◌&&◌, List, [], length, refl, sym, ap, ◌∙◌, subst, arith, inl, inr, Option, Some, None}
 use Rattle.frs_base.specs.Names.{matches}
 use Rattle.frs_base.specs.Options.{In}
-use Rattle.frs_base.specs.declared.kind.Kind.TheVariants.{Directory, File}
+use Rattle.frs_base.specs.declared.kind.Kind.TheVariants.{File}
 use Rattle.frs_base.specs.declared.version.Uid.{Uid}
 use Rattle.win_order.specs.Order.{is_directory, key_of}
 use Rattle.win_order.specs.declared.update.Update.{Update}
@@ -23,9 +23,9 @@ use Rattle.name_rules.proofs.Parents.{kind_is, parent_is, parent_root}
 use Rattle.name_rules.proofs.Shown.{shown_record}
 use Rattle.world_model.specs.World.{Member, World, IsRecordOf}
 use Rattle.world_model.specs.Invariant.{HasSum, IsSound}
-use Rattle.world_model.specs.Laws.{HaveContents, IsDone, NextStepsCanBeDone}
+use Rattle.world_model.specs.Laws.{IsDone, NextStepsCanBeDone}
 use Rattle.world_model.proofs.Facts.{none_some, some_is, true_false}
-use Rattle.world_model.proofs.Installed.{no_pending}
+use Rattle.world_model.proofs.Installed.{file_kind, file_split, no_pending}
 use Rattle.world_model.proofs.Names.{matches_is, matches_sym, matches_trans}
 
 -- each version is of one update
@@ -47,22 +47,6 @@ record IsParked (all : List Update) (own : ℕ) (x : Member) : Type 0 where
 pub shown_name : (R : Update → Type 0) (u : Update) → IsShown R u → HasName R u
 shown_name R u (zero, h) = absurd h
 shown_name R u (suc n, h) = h.0
-
-file_split : (u : Update) → is_file u ≡ true → is_directory u ≡ false
-file_split u e = go u.present (is_directory u) e
-  where
-    go : (p d : Bool) → (p && not d) ≡ true → d ≡ false
-    go p false e = refl
-    go true true e = absurd (true_false false e refl)
-    go false true e = absurd (true_false false e refl)
-
--- a present file is of the kind of files
-file_kind : (u : Update) → is_file u ≡ true → kind_of u ≡ File
-file_kind u is = go (is_directory u) (file_split u is)
-  where
-    go : (d : Bool) → d ≡ false → cond d Directory File ≡ File
-    go false e = refl
-    go true e = absurd (true_false true refl e)
 
 -- a place in the root is 0
 root_place : (all : List Update) (own : ℕ) (x : Member) → IsSound all own x → (f : ℕ) → IsDirectory x.volume f → parent_uid own x.volume f ≡ root_uid → f ≡ 0
@@ -192,7 +176,7 @@ HasBytes x u = (bytes : List ℕ)
     × (is_directory_kind (kind_of u) ≡ true → length bytes ≡ 0)
     × (is_file u ≡ true → (x.staged u.uid ≡ Some (content_sum (kind_of u) bytes)) × (content_sum (kind_of u) bytes ≡ u.hash))
 
-has_bytes : (x : Member) (u : Update) → HaveContents x.staged → (is_file u ≡ true → x.staged u.uid ≡ Some u.hash) → HasBytes x u
+has_bytes : (x : Member) (u : Update) → (is_file u ≡ true → (bytes : List ℕ) × (content_sum File bytes ≡ u.hash)) → (is_file u ≡ true → x.staged u.uid ≡ Some u.hash) → HasBytes x u
 has_bytes x u contents staged = by (is_file u) refl
   where
     plain : (p d : Bool) → (p && not d) ≡ true → d ≡ true → ⊥
@@ -203,14 +187,14 @@ has_bytes x u contents staged = by (is_file u) refl
     by : (b : Bool) → is_file u ≡ b → HasBytes x u
     by false i = ([], λ k. refl, λ k. absurd (true_false (is_file u) k i))
     by true i =
-        let (bytes, sum) = contents u.uid u.hash (staged i) in
+        let (bytes, sum) = contents i in
         let is : content_sum (kind_of u) bytes ≡ u.hash = ap (λ k. content_sum k bytes) (file_kind u i) ∙ sum in
         (bytes, λ k. absurd (plain u.present (is_directory u) i (sym (kind_is u) ∙ k)), λ k. (staged i ∙ ap Some (sym is), is))
 
 pub next_steps : NextStepsCanBeDone
-next_steps w h d contents quiet (InstallStep.Park file) turn (f, o, p, at, uid, place, out) =
+next_steps w h d quiet (InstallStep.Park file) turn (f, o, p, at, uid, place, out) =
     (_, (cmd.Park f, (f, o, at, uid, refl), (quiet, (o, p, at, place, out), (o, at, λ e. none_some p (sym e ∙ place)), refl)))
-next_steps w h d contents quiet (InstallStep.Erase file) park (f, o, u, at, uid, r, id, absent) = (
+next_steps w h d quiet (InstallStep.Erase file) park (f, o, u, at, uid, r, id, absent) = (
   _,
   (
     cmd.Erase f,
@@ -226,9 +210,9 @@ next_steps w h d contents quiet (InstallStep.Erase file) park (f, o, u, at, uid,
   where
     parked : IsParked w.all d (w.at d)
     parked = record { one = h.versions.one_each; sound = h.members d; no_root = h.files.no_root; park = park }
-next_steps w h d contents quiet (InstallStep.Make file) turn (u, shown, id, none) =
+next_steps w h d quiet (InstallStep.Make file) turn (u, shown, id, none) =
     let r = shown_record (IsRecordOf w d) u shown in
-    let (bytes, bare, staged) = has_bytes (w.at d) u contents (λ i. staged_for w.all d (w.at d) u (h.members d) quiet r i (λ c. none c.0 c.1 c.2 (c.3 ∙ id))) in (
+    let (bytes, bare, staged) = has_bytes (w.at d) u (h.sums.hashes u r.among.0) (λ i. staged_for w.all d (w.at d) u (h.members d) quiet r i (λ c. none c.0 c.1 c.2 (c.3 ∙ id))) in (
       _,
       (
         cmd.Make file (kind_of u) bytes,
@@ -241,9 +225,9 @@ next_steps w h d contents quiet (InstallStep.Make file) turn (u, shown, id, none
         ),
       ),
     )
-next_steps w h d contents quiet (InstallStep.Rewrite file) turn (f, o, u, at, uid, r, id, is, differs) =
+next_steps w h d quiet (InstallStep.Rewrite file) turn (f, o, u, at, uid, r, id, is, differs) =
     let staged : (w.at d).staged u.uid ≡ Some u.hash = staged_for w.all d (w.at d) u (h.members d) quiet r is (λ c. differs (ap (λ z. z.sum) (same c) ∙ c.4)) in
-    let (bytes, is_sum) = contents u.uid u.hash staged in
+    let (bytes, is_sum) = h.sums.hashes u r.among.0 is in
     let kind : kind_of u ≡ o.kind = (h.members d).objects.kinds f o u at r.among.0 (id ∙ sym uid) in
     let sum : content_sum o.kind bytes ≡ u.hash = ap (λ k. content_sum k bytes) (sym kind ∙ file_kind u is) ∙ is_sum in (
       _,
@@ -261,7 +245,7 @@ next_steps w h d contents quiet (InstallStep.Rewrite file) turn (f, o, u, at, ui
   where
     same : (c : HasSum d (w.at d).volume u.uid u.hash) → o ≡ c.1
     same c = let e : f ≡ c.0 = (h.members d).places.uids f c.0 o c.1 at c.2 (uid ∙ (sym id ∙ sym c.3)) in some_is o c.1 (sym at ∙ (ap (w.at d).volume.at e ∙ c.2))
-next_steps w h d contents quiet (InstallStep.Place file) (park, erase, make, rewrite) (f, o, u, at, uid, limbo, shown, id) = go (home w.all d (w.at d) u (h.members d) make shown)
+next_steps w h d quiet (InstallStep.Place file) (park, erase, make, rewrite) (f, o, u, at, uid, limbo, shown, id) = go (home w.all d (w.at d) u (h.members d) make shown)
   where
     parked : IsParked w.all d (w.at d)
     parked = record { one = h.versions.one_each; sound = h.members d; no_root = h.files.no_root; park = park }
@@ -292,7 +276,7 @@ next_steps w h d contents quiet (InstallStep.Place file) (park, erase, make, rew
     go (inr (p, g, q, pid, at', uid', dir, rp)) =
         place g (sym pid ∙ (sym uid' ∙ sym (parent_is d (w.at d).volume g q (h.members d).numbers.root at'))) (inr (q, at', dir))
         (λ b. no_cycle w.all d (w.at d) parked f g o q u p at r (id ∙ sym uid) at' uid' pid (λ e. h.files.no_root p rp.among.0 (pid ∙ e)) b shown.0 shown.0 (omega arith) shown.1)
-next_steps w h d contents quiet (InstallStep.Unstage file) turn (f, o, at, uid, staged) = (_, (f, o, at, uid, staged, refl))
-next_steps w h d contents quiet (InstallStep.Skip usn) turn (r, is, at) =
+next_steps w h d quiet (InstallStep.Unstage file) turn (f, o, at, uid, staged) = (_, (f, o, at, uid, staged, refl))
+next_steps w h d quiet (InstallStep.Skip usn) turn (r, is, at) =
     let (held, is_held) = held_is w.all (w.at d).known r.uid in
     (_, (0, is, quiet, (omega arith, _, (r, held, subst (λ n. (w.at d).volume.entry n ≡ Some r) is at, is_held, refl), refl)))

@@ -33,6 +33,7 @@ use Rattle.world_model.proofs.Puts.{adopt_put, consume_none, consume_put, finish
 use Rattle.world_model.proofs.Locally.{local_sound}
 use Rattle.world_model.proofs.Adopted.{adopt_sound, known_sound, same_sound, unstage_sound}
 use Rattle.world_model.proofs.Installed.{no_pending, replica_sound}
+use Rattle.world_model.proofs.Sums.{AreSummed, consume_sums, member_sums, write_sums}
 use Rattle.world_model.proofs.Consumed.{Held, PutsTo, consume_nothing, consume_some, kind_kept, made_kind}
 
 -- ---- the parts of a member, in the world
@@ -255,26 +256,29 @@ clocks_same w new e c = subst ClocksAreSmall e c
 
 -- a world in which one member changed keeps the invariant
 changed : (w : World) (d : ℕ) (x : Member) → Invariant w → x.consumed ≡ (w.at d).consumed → VersionsAreMade (with_member w d x) → SentIsKnown (with_member w d x)
-    → IsSound w.all d x → Invariant (with_member w d x)
-changed w d x h same made sent sound = record {
+    → IsSound w.all d x → AreSummed x.volume → Invariant (with_member w d x)
+changed w d x h same made sent sound summed = record {
   versions = made;
   sent = sent;
   members = members_sound w d x h.members sound;
   files = files_same w d x same h.files;
   clocks = h.clocks;
+  sums = member_sums w d x h.sums summed;
 }
 
 -- every event keeps the invariant
 pub step_keeps : EventsKeepTheInvariant
 step_keeps w d (Local op) new h s =
     subst Invariant (sym s.1) (changed w d _ h refl (step_made w d (Local op) _ h.versions h.sent (s.0, refl)) (step_sent w d (Local op) _ h.sent (s.0, refl))
-    (local_sound (λ v. In v w.all) (IsRecord w.all (w.at d).known) d (w.at d) op (h.versions.begun d) (λ v r. r.among.0) (λ u a e. subst (λ (i : ℕ). u.uid.version < (w.at i).consumed) e (h.files.made u a)) (h.members d) s.0))
+    (local_sound (λ v. In v w.all) (IsRecord w.all (w.at d).known) d (w.at d) op (h.versions.begun d) (λ v r. r.among.0) (λ u a e. subst (λ (i : ℕ). u.uid.version < (w.at i).consumed) e (h.files.made u a)) (h.members d) s.0)
+    (write_sums d op (w.at d).volume (h.sums.objects d)))
 step_keeps w d (Consume moment) new h (early, made, r, is) = subst Invariant (sym is) (record {
   versions = step_made w d (Consume moment) _ h.versions h.sent (early, made, r, refl);
   sent = step_sent w d (Consume moment) _ h.sent (early, made, r, refl);
   members = consume_members w d moment made h r;
   files = consume_files w d moment made h r;
   clocks = consume_clocks w d moment made h early r;
+  sums = consume_sums w d moment made h.sums r;
 })
 step_keeps w d SendVector new h s = subst Invariant (sym s) (record {
   versions = step_made w d SendVector _ h.versions h.sent refl;
@@ -282,6 +286,7 @@ step_keeps w d SendVector new h s = subst Invariant (sym s) (record {
   members = h.members;
   files = h.files;
   clocks = h.clocks;
+  sums = record { objects = h.sums.objects; hashes = h.sums.hashes };
 })
 step_keeps w d (SendUpdate u) new h s = subst Invariant (sym s.1) (record {
   versions = step_made w d (SendUpdate u) _ h.versions h.sent (s.0, refl);
@@ -289,19 +294,21 @@ step_keeps w d (SendUpdate u) new h s = subst Invariant (sym s.1) (record {
   members = h.members;
   files = h.files;
   clocks = h.clocks;
+  sums = record { objects = h.sums.objects; hashes = h.sums.hashes };
 })
 step_keeps w d (Adopt u) new h s =
     subst Invariant (sym s.2) (changed w d _ h refl (step_made w d (Adopt u) _ h.versions h.sent (s.0, s.1, refl)) (step_sent w d (Adopt u) _ h.sent (s.0, s.1, refl))
-    (adopts_sound w d u h.versions h.sent (h.members d) s.0 s.1))
+    (adopts_sound w d u h.versions h.sent (h.members d) s.0 s.1) (h.sums.objects d))
 step_keeps w d (Finish v) new h s =
     subst Invariant (sym s.2) (changed w d _ h refl (step_made w d (Finish v) _ h.versions h.sent (s.0, s.1, refl)) (step_sent w d (Finish v) _ h.sent (s.0, s.1, refl))
-    (finish_sound w d v h.versions (h.members d) s.1))
+    (finish_sound w d v h.versions (h.members d) s.1) (h.sums.objects d))
 step_keeps w d (Install op) new h s =
     subst Invariant (sym s.3) (changed w d _ h refl (step_made w d (Install op) _ h.versions h.sent (s.0, s.1, s.2, refl)) (step_sent w d (Install op) _ h.sent (s.0, s.1, s.2, refl))
-    (replica_sound (λ v. In v w.all) (IsRecord w.all (w.at d).known) d (w.at d) op (λ a b c e q. best_one a b (λ i j k l. h.versions.one_each i j k.0 l.0) c e q) (h.versions.begun d) (λ v r. r.among.0) h.files.kinds s.0 s.1 s.2 (h.members d)))
+    (replica_sound (λ v. In v w.all) (IsRecord w.all (w.at d).known) d (w.at d) op (λ a b c e q. best_one a b (λ i j k l. h.versions.one_each i j k.0 l.0) c e q) (h.versions.begun d) (λ v r. r.among.0) h.files.kinds s.0 s.1 s.2 (h.members d))
+    (write_sums d op (w.at d).volume (h.sums.objects d)))
 step_keeps w d (Unstage id) new h (f, o, at, uid, staged, is) =
     subst Invariant (sym is) (changed w d _ h refl (step_made w d (Unstage id) _ h.versions h.sent (f, o, at, uid, staged, refl)) (step_sent w d (Unstage id) _ h.sent (f, o, at, uid, staged, refl))
-    (unstage_sound (λ v. In v w.all) (IsRecord w.all (w.at d).known) d (w.at d) id f o (h.members d) at uid staged))
+    (unstage_sound (λ v. In v w.all) (IsRecord w.all (w.at d).known) d (w.at d) id f o (h.members d) at uid staged) (h.sums.objects d))
 
 -- so does every run
 run_keeps : (w : World) (hs : List Happening) (new : World) → Invariant w → Run w hs new → Invariant new

@@ -2,6 +2,7 @@
 use Rattle.std.specs.Prelude.{◌≡◌, ◌≢◌, ◌⊎◌, ◌<◌, ◌≤◌, ◌+◌, ◌^◌, ℕ, true, false, List, Some, None, length}
 use Rattle.frs_base.specs.Names.{matches}
 use Rattle.frs_base.specs.Options.{In}
+use Rattle.frs_base.specs.declared.kind.Kind.TheVariants.{File}
 use Rattle.frs_base.specs.declared.sum.Sum.{Sum}
 use Rattle.frs_base.specs.declared.version.Gvsn.{Gvsn}
 use Rattle.frs_base.specs.declared.version.Uid.{Uid}
@@ -9,6 +10,7 @@ use Rattle.win_order.specs.declared.update.Update.{Update}
 use Rattle.vol_state.specs.declared.object.Object.{Object}
 use Rattle.vol_state.specs.declared.record.VolRecord.{VolRecord}
 use Rattle.vol_state.specs.State.{uid_of}
+use Rattle.vol_state.specs.Sums.{content_sum}
 use Rattle.vol_state.specs.Conditions.{root_uid}
 use Rattle.vol_state.specs.Maps.{Maps}
 use Rattle.vol_state.specs.Tables.{IsAt, IsDirectory, IsReached, Leads}
@@ -124,6 +126,15 @@ pub record ClocksAreSmall (all : List Update) : Type 0 where
 abbrev pub consumed_of : World → ℕ → ℕ
 consumed_of w d = (w.at d).consumed
 
+-- ---- sums
+
+-- sums are those of contents
+pub record SumsAreOfContents (w : World) : Type 0 where
+  -- each object's sum is that of its contents
+  pub objects : (d fid : ℕ) (o : Object) → IsAt (w.at d).volume fid o → o.sum ≡ content_sum o.kind o.bytes
+  -- the hash of each present file is that of some contents
+  pub hashes : (u : Update) → In u w.all → is_file u ≡ true → (bytes : List ℕ) × (content_sum File bytes ≡ u.hash)
+
 -- ---- the invariant
 
 -- what every run keeps
@@ -133,3 +144,4 @@ pub record Invariant (w : World) : Type 0 where
   pub members : (d : ℕ) → IsSound w.all d (w.at d)
   pub files : FilesAreSound w.all (consumed_of w)
   pub clocks : ClocksAreSmall w.all
+  pub sums : SumsAreOfContents w

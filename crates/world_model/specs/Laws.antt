@@ -1,9 +1,8 @@
 -- What holds of every run.
-use Rattle.std.specs.Prelude.{◌≡◌, ◌↔◌, ◌<◌, ◌≤◌, ◌-◌, ℕ, true, false, All, List, [], Option, Some, length, sum_by, Bool, ◌∷◌, count_by}
+use Rattle.std.specs.Prelude.{◌≡◌, ◌↔◌, ◌<◌, ◌≤◌, ◌-◌, ℕ, true, false, All, List, [], Option, length, sum_by, Bool, ◌∷◌, count_by}
 use Rattle.frs_base.specs.Options.{In}
 use Rattle.frs_base.specs.Versions.{same_uid}
 use Rattle.frs_base.specs.declared.kind.Kind.{Kind}
-use Rattle.frs_base.specs.declared.kind.Kind.TheVariants.{File}
 use Rattle.frs_base.specs.declared.kind.MemberKind.{MemberKind}
 use Rattle.frs_base.specs.declared.sum.Sum.{Sum}
 use Rattle.frs_base.specs.declared.version.Gvsn.{Gvsn}
@@ -12,7 +11,6 @@ use Rattle.win_order.specs.declared.update.Update.{Update}
 use Rattle.vol_state.specs.declared.object.Object.{Object}
 use Rattle.vol_state.specs.declared.command.VolCmd.{VolCmd}
 use Rattle.vol_state.specs.State.{uid_of}
-use Rattle.vol_state.specs.Sums.{content_sum}
 use Rattle.vol_state.specs.Tables.{IsAt}
 use Rattle.record_db.specs.Records.{Versions, Covered, IsHeldOrBeaten}
 use Rattle.name_rules.specs.Tree.{IsRow, IsVolumeRow, kind_of}
@@ -92,10 +90,6 @@ EqualVectorsHaveEqualTrees = (w new : World) → Invariant w → Invariant new �
 
 -- ---- the installer
 
--- each staged sum is that of some contents
-abbrev pub HaveContents : (Uid → Option Sum) → Type 0
-HaveContents staged = (uid : Uid) (sum : Sum) → staged uid ≡ Some sum → (bytes : List ℕ) × (content_sum File bytes ≡ sum)
-
 -- the operation of a step is done
 abbrev pub IsOperated : World → ℕ → InstallStep → World → Type 0
 IsOperated w d step new = (op : VolCmd) × IsStepOf (IsRecordOf w d) d (w.at d).volume step op × Step w d (Install op) new
@@ -112,7 +106,7 @@ IsDone w d (InstallStep.Skip usn) new = (moment : ℕ) × (usn ≡ (w.at d).cons
 
 -- each next step can be done
 abbrev pub NextStepsCanBeDone : Type 0
-NextStepsCanBeDone = (w : World) → Invariant w → (d : ℕ) → HaveContents (w.at d).staged → IsQuiet (w.at d).consumed (w.at d).volume → (step : InstallStep)
+NextStepsCanBeDone = (w : World) → Invariant w → (d : ℕ) → IsQuiet (w.at d).consumed (w.at d).volume → (step : InstallStep)
     → IsTurn (IsRecordOf w d) d (w.at d).volume (w.at d).staged step → IsCandidate (IsRecordOf w d) d (w.at d).volume (w.at d).staged (w.at d).consumed step
     → (new : World) × IsDone w d step new
 

@@ -96,8 +96,7 @@ pub fn lives_are_sound()
     ensures { LivesAreSound }
 {}
 
-/// Each next step of the installer can be done, where no local record is pending and what is staged
-/// has contents.
+/// Each next step of the installer can be done, where no local record is pending.
 pub fn next_steps_can_be_done()
     ensures { NextStepsCanBeDone }
 {}
