@@ -1,10 +1,8 @@
 -- The volume and the records go on to agree.
 use Rattle.std.proofs.Common.{◌≡◌, ◌≢◌, ◌<◌, ◌≤◌, ℕ, true, List, Option, Some, None, refl, sym, ap, ◌∙◌, subst, inl, inr}
-use Rattle.std.specs.Prelude.{MatchOption, option_map}
+use Rattle.std.specs.Prelude.{MatchOption, if◌then◌else◌, option_map}
 use Rattle.frs_base.specs.Identifiers.{content_set}
 use Rattle.frs_base.specs.Options.{In}
-use Rattle.frs_base.specs.declared.sum.Sum.{Sum}
-use Rattle.frs_base.specs.declared.version.Uid.{Uid}
 use Rattle.version_vector.specs.Versions.{covers}
 use Rattle.version_vector.specs.declared.interval.Interval.{Interval}
 use Rattle.win_order.specs.declared.update.Update.{Update}
@@ -17,9 +15,11 @@ use Rattle.vol_state.specs.Maps.{StandsOn, maps_of, write}
 use Rattle.vol_state.specs.Tables.{IsLocal}
 use Rattle.record_db.specs.declared.command.BookCmd.TheVariants as cmd
 use Rattle.record_db.specs.Lists.{put_any, put_record}
+use Rattle.record_db.specs.Staged.{with_uid}
 use Rattle.record_db.specs.State.{BookState, IsBook}
 use Rattle.record_db.specs.Steps.{Changes, in_set}
 use Rattle.name_rules.specs.Recorded.{base_fence, held_of, is_deletion, made_of, recorded_of}
+use Rattle.name_rules.specs.Tree.{is_file}
 use Rattle.name_rules.proofs.Cases.{made_by}
 use Rattle.world_model.specs.Events.{adopted_by, consumed_by, finished_by, operated}
 use Rattle.world_model.specs.Folder.{FolderIsSound, IsFit, IsFitVector}
@@ -27,9 +27,11 @@ use Rattle.world_model.specs.World.{Member}
 use Rattle.world_model.proofs.Folder.{folders_stay}
 use Rattle.folder_core.specs.Machine.{Machine}
 use Rattle.folder_core.specs.Consume.{made_at}
-use Rattle.folder_core.specs.Sound.{Agrees, IsInOrder, member_of}
+use Rattle.folder_core.specs.Notes.{form_sum}
+use Rattle.folder_core.specs.Sound.{Agrees, IsInOrder, member_of, staged_sums}
 use Rattle.folder_core.proofs.Alike.{covers_are, maps_are, stands_for_maps}
 use Rattle.folder_core.proofs.Held.{each_of, held_is, in_own_set, record_there}
+use Rattle.folder_core.proofs.Staging.{sums_made, sums_stay, sums_with}
 
 -- the same, of what is equal
 moved : (own own' : ℕ) (x x' : Member) (records records' : List Update) → own ≡ own' → x ≡ x' → records ≡ records' → FolderIsSound own x records → FolderIsSound own' x' records'
@@ -37,14 +39,14 @@ moved own own' x x' records records' p q r h = subst (λ l. FolderIsSound own' x
 
 -- a local operation is done
 pub agrees_operated : StandsOn → (m : Machine) (op : VolCmd) → IsInOrder m → is_allowed op m.volume ≡ true → IsLocal (maps_of m.volume) op → Agrees m → Agrees (record m { volume = effect op m.volume })
-agrees_operated on m op order allowed local (staged, h) =
-    (staged, subst (λ x. FolderIsSound m.book.own x m.book.records) path ((folders_stay m.book.own (member_of m staged) m.book.records h).local op local))
+agrees_operated on m op order allowed local h =
+    subst (λ x. FolderIsSound m.book.own x m.book.records) path ((folders_stay m.book.own (member_of m) m.book.records h).local op local)
   where
     maps : write m.volume.own op (maps_of m.volume) ≡ maps_of (effect op m.volume)
     maps = maps_are (effect op m.volume) (write m.volume.own op (maps_of m.volume)) (on op m.volume (maps_of m.volume) order.volume order.free allowed (stands_for_maps m.volume))
 
-    path : operated m.book.own op (member_of m staged) ≡ member_of (record m { volume = effect op m.volume }) staged
-    path = let is = ap (λ own. write own op (maps_of m.volume)) (sym order.own) ∙ maps in λ i. record (member_of m staged) { volume = is i }
+    path : operated m.book.own op (member_of m) ≡ member_of (record m { volume = effect op m.volume })
+    path = let is = ap (λ own. write own op (maps_of m.volume)) (sym order.own) ∙ maps in λ i. record (member_of m) { volume = is i }
 
 -- ---- a journal record
 
@@ -74,7 +76,7 @@ same_made set (Some u) same = ap (λ z. Some z) (in_own_set set u (same u refl))
 -- the next journal record is consumed
 pub agrees_recorded : (m : Machine) (moment : ℕ) (made : Option Update) (new : BookState) → IsInOrder m → m.book.set ≡ content_set → made ≡ made_at m moment
     → 9 ≤ m.book.consumed → m.book.consumed < m.volume.next_usn → Changes (cmd.RecordLocal m.book.consumed made) m.book new → Agrees m → Agrees (record m { book = new })
-agrees_recorded m moment made new order set is begun left c (staged, h) = by (record_there m.volume m.book.consumed order.numbered begun left)
+agrees_recorded m moment made new order set is begun left c h = by (record_there m.volume m.book.consumed order.numbered begun left)
   where
     by : (r : VolRecord) × (record_at m.volume.journal m.book.consumed ≡ Some r) → Agrees (record m { book = new })
     by (r, there) =
@@ -82,34 +84,37 @@ agrees_recorded m moment made new order set is begun left c (staged, h) = by (re
         is ∙ ap (λ found. made_of found (λ s. recorded_of m.volume.own (maps_of m.volume) (base_fence m.book.phase m.book.kind) m.book.consumed moment s (held_of m.book.records s.uid))) there in
         let made_by_own : made ≡ recorded_of m.book.own (maps_of m.volume) (base_fence m.book.phase m.book.kind) m.book.consumed moment r (held_of m.book.records r.uid) =
         made_is ∙ ap (λ own. recorded_of own (maps_of m.volume) (base_fence m.book.phase m.book.kind) m.book.consumed moment r (held_of m.book.records r.uid)) order.own in
-        let after : FolderIsSound m.book.own (consumed_by m.book.own made (member_of m staged)) (put_any made m.book.records) =
-        (folders_stay m.book.own (member_of m staged) m.book.records h).consume moment r (held_of m.book.records r.uid) made there (held_is m.book.records r.uid) made_by_own in
+        let after : FolderIsSound m.book.own (consumed_by m.book.own made (member_of m)) (put_any made m.book.records) =
+        (folders_stay m.book.own (member_of m) m.book.records h).consume moment r (held_of m.book.records r.uid) made there (held_is m.book.records r.uid) made_by_own in
         let known = covers_are new.vector _ c.vector in
-        let path : consumed_by m.book.own made (member_of m staged) ≡ member_of (record m { book = new }) (consumed_by m.book.own made (member_of m staged)).staged =
-        (λ i. record (consumed_by m.book.own made (member_of m staged)) { known = sym known i; consumed = sym c.consumed i; kind = sym c.kind i; phase = sym c.phase i }) in
+        let staged = sums_made m.book new made c.staged in
+        let path : consumed_by m.book.own made (member_of m) ≡ member_of (record m { book = new }) =
+        (λ i. record (consumed_by m.book.own made (member_of m)) { known = sym known i; consumed = sym c.consumed i; kind = sym c.kind i; phase = sym c.phase i; staged = sym staged i }) in
         let records : put_any made m.book.records ≡ new.records =
         ap (λ o. put_any o m.book.records) (sym (same_made m.book.set made (λ u e. made_set m moment r u order.book set (e ∙ made_is)))) ∙ sym c.records in
-        ((consumed_by m.book.own made (member_of m staged)).staged, moved _ _ _ _ _ _ (sym c.own) path records after)
+        moved _ _ _ _ _ _ (sym c.own) path records after
 
 -- ---- a partner's update and vector
 
--- an update is taken
-pub agrees_adopted : (m : Machine) (u : Update) (new : BookState) → u.set ≡ m.book.set → ((staged : Uid → Option Sum) → IsFit m.book.own (member_of m staged) m.book.records u)
-    → Changes (cmd.Adopt u) m.book new → Agrees m → Agrees (record m { book = new })
-agrees_adopted m u new set fit c (staged, h) =
-    let after : FolderIsSound m.book.own (adopted_by u (member_of m staged)) (put_record u m.book.records) = (folders_stay m.book.own (member_of m staged) m.book.records h).adopt u (fit staged) in
+-- an update is taken, with what is staged of it: the form with its hash of a present file, and nothing of all else
+pub agrees_adopted : (m : Machine) (u : Update) (form : Option (List ℕ)) (new : BookState) → u.set ≡ m.book.set → IsFit m.book.own (member_of m) m.book.records u
+    → option_map form_sum form ≡ (if is_file u then Some u.hash else None) → Changes (cmd.Adopt u form) m.book new → Agrees m → Agrees (record m { book = new })
+agrees_adopted m u form new set fit sum c h =
+    let after : FolderIsSound m.book.own (adopted_by u (member_of m)) (put_record u m.book.records) = (folders_stay m.book.own (member_of m) m.book.records h).adopt u fit in
     let known = covers_are new.vector _ c.vector in
-    let path : adopted_by u (member_of m staged) ≡ member_of (record m { book = new }) (adopted_by u (member_of m staged)).staged =
-    (λ i. record (adopted_by u (member_of m staged)) { known = sym known i; consumed = sym c.consumed i; kind = sym c.kind i; phase = sym c.phase i }) in
+    let staged = sums_with m.book new u.uid form c.staged ∙ ap (λ s. with_uid (staged_sums m.book) u.uid s) sum in
+    let path : adopted_by u (member_of m) ≡ member_of (record m { book = new }) =
+    (λ i. record (adopted_by u (member_of m)) { known = sym known i; consumed = sym c.consumed i; kind = sym c.kind i; phase = sym c.phase i; staged = sym staged i }) in
     let records : put_record u m.book.records ≡ new.records = ap (λ v. put_record v m.book.records) (sym (in_own_set m.book.set u set)) ∙ sym c.records in
-    ((adopted_by u (member_of m staged)).staged, moved _ _ _ _ _ _ (sym c.own) path records after)
+    moved _ _ _ _ _ _ (sym c.own) path records after
 
 -- a round is finished
-pub agrees_finished : (m : Machine) (sent : List Interval) (new : BookState) → ((staged : Uid → Option Sum) → IsFitVector m.book.own (member_of m staged) (covers sent))
-    → Changes (cmd.Finish sent) m.book new → Agrees m → Agrees (record m { book = new })
-agrees_finished m sent new fit c (staged, h) =
-    let after : FolderIsSound m.book.own (finished_by (covers sent) (member_of m staged)) m.book.records = (folders_stay m.book.own (member_of m staged) m.book.records h).finish (covers sent) (fit staged) in
+pub agrees_finished : (m : Machine) (sent : List Interval) (new : BookState) → IsFitVector m.book.own (member_of m) (covers sent) → Changes (cmd.Finish sent) m.book new → Agrees m
+    → Agrees (record m { book = new })
+agrees_finished m sent new fit c h =
+    let after : FolderIsSound m.book.own (finished_by (covers sent) (member_of m)) m.book.records = (folders_stay m.book.own (member_of m) m.book.records h).finish (covers sent) fit in
     let known = covers_are new.vector _ c.vector in
-    let path : finished_by (covers sent) (member_of m staged) ≡ member_of (record m { book = new }) staged =
-    (λ i. record (finished_by (covers sent) (member_of m staged)) { known = sym known i; consumed = sym c.consumed i; kind = sym c.kind i; phase = sym c.phase i }) in
-    (staged, moved _ _ _ _ _ _ (sym c.own) path (sym c.records) after)
+    let staged = sums_stay m.book new c.staged in
+    let path : finished_by (covers sent) (member_of m) ≡ member_of (record m { book = new }) =
+    (λ i. record (finished_by (covers sent) (member_of m)) { known = sym known i; consumed = sym c.consumed i; kind = sym c.kind i; phase = sym c.phase i; staged = sym staged i }) in
+    moved _ _ _ _ _ _ (sym c.own) path (sym c.records) after

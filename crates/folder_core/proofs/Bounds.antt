@@ -39,8 +39,8 @@ bounds_recorded old new made h has c = record {
     ]
 
 -- an update is taken
-pub bounds_adopted : (old new : BookState) (u : Update) → IsInBounds old → u.clock < 2 ^ 62 → (u.gvsn.db ≡ old.own → u.gvsn.version < old.consumed) → Changes (Adopt u) old new → IsInBounds new
-bounds_adopted old new u h has made c = record {
+pub bounds_adopted : (old new : BookState) (u : Update) (form : Option (List ℕ)) → IsInBounds old → u.clock < 2 ^ 62 → (u.gvsn.db ≡ old.own → u.gvsn.version < old.consumed) → Changes (Adopt u form) old new → IsInBounds new
+bounds_adopted old new u form h has made c = record {
   begun = subst (λ n. 9 ≤ n) (sym c.consumed) h.begun;
   ahead = λ g covered own. subst (λ n. g.version < n) (sym c.consumed) (ahead g (sym (c.vector.covering g) ∙ covered) (own ∙ c.own));
   clocks = subst (AllByRecursion (λ u. u.clock < 2 ^ 62)) (sym c.records) (clocks_put old.set (Some u) old.records h.clocks has);

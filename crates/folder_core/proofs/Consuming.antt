@@ -1,9 +1,10 @@
 -- Commands on the book that may be taken, and what they answer.
-use Rattle.std.proofs.Common.{◌≡◌, ◌<◌, ◌≤◌, ◌-◌, ◌^◌, ◌&&◌, ℕ, Bool, true, false, cond, eqb, leb, ltb, Option, Some, None, Result, Ok, Err, refl, sym, ap, ◌∙◌, subst, inl, inr, arith}
-use Rattle.std.specs.Prelude.{IfOk, MatchBool, IsSome}
+use Rattle.std.proofs.Common.{◌≡◌, ◌<◌, ◌≤◌, ◌-◌, ◌^◌, ◌&&◌, ℕ, Bool, true, false, cond, eqb, leb, ltb, List, Option, Some, None, Result, Ok, Err, refl, sym, ap, ◌∙◌, subst, inl, inr, arith}
+use Rattle.std.specs.Prelude.{[], if◌then◌else◌, IfOk, MatchBool, IsSome, unwrap_or}
 use Rattle.std.proofs.lemmas.Bool.Decides.{nat_tests}
 use Rattle.frs_base.specs.Versions.{same_gvsn}
 use Rattle.frs_base.specs.declared.version.Gvsn.{Gvsn}
+use Rattle.marshal_form.specs.Local.{IsLocalForm}
 use Rattle.version_vector.specs.Versions.{covers}
 use Rattle.win_order.specs.declared.update.Update.{Update}
 use Rattle.vol_state.specs.Journal.{record_at}
@@ -15,6 +16,7 @@ use Rattle.record_db.specs.Steps.{own_version}
 use Rattle.record_db.proofs.Keys.{same_gvsn_refl}
 use Rattle.record_db.proofs.Sets.{plus_new}
 use Rattle.name_rules.specs.Recorded.{base_fence, held_of, made_of, recorded_of}
+use Rattle.name_rules.specs.Tree.{is_file}
 use Rattle.name_rules.proofs.Cases.{made_version}
 use Rattle.usn_consumer.specs.Next.{HasClock, IsNext, have_clocks, making, next_of}
 use Rattle.usn_consumer.specs.declared.consumed.Consumed.{Consumed}
@@ -22,18 +24,20 @@ use Rattle.usn_consumer.specs.declared.consumed.Consumed.TheVariants.{End, Make,
 use Rattle.usn_consumer.proofs.Clocks.{clocks_of_each}
 use Rattle.std.specs.declared.alloc.AllocError.{AllocError}
 use Rattle.folder_core.specs.declared.answer.Answer.{Answer}
+use Rattle.folder_core.specs.declared.refusal.Refusal.{Refusal}
 use Rattle.folder_core.specs.declared.refusal.Refusal.TheVariants.{Skewed}
 use Rattle.folder_core.specs.declared.reply.Reply.{Reply}
 use Rattle.folder_core.specs.declared.reply.Reply.TheVariants.{Made, Nothing, Skipped}
 use Rattle.folder_core.specs.Machine.{Machine, Refuses}
 use Rattle.folder_core.specs.Books.{Takes}
 use Rattle.folder_core.specs.Consume.{AnswersConsume, AnswersMade, AnswersRecord, made_at}
-use Rattle.folder_core.specs.Adopt.{adopt_refusal}
+use Rattle.folder_core.specs.Adopt.{ChecksForm, Stages, adopt_refusal}
 use Rattle.folder_core.specs.Given.{MayTake}
 use Rattle.folder_core.specs.Sound.{IsSound}
 use Rattle.folder_core.proofs.Fitting.{is_clear, is_fit}
 use Rattle.folder_core.proofs.Held.{each_of, record_there}
-use Rattle.folder_core.proofs.Sounding.{adopted_sound, recorded_sound}
+use Rattle.folder_core.proofs.Staging.{nothing_staged}
+use Rattle.folder_core.proofs.Sounding.{IsStagedOf, adopted_sound, recorded_sound}
 
 -- ---- what next_record asks for
 
@@ -176,14 +180,14 @@ answers_skewed m moment clock reply new (u, e, is, late) h =
 -- ---- a partner's update
 
 -- an update that isn't refused may be taken
-pub may_adopt : (m : Machine) (u : Update) → IsSound m → u.gvsn.version < 2 ^ 64 → adopt_refusal m u ≡ None → MayTake (cmd.Adopt u) m
-may_adopt m u h fits none =
+pub may_adopt : (m : Machine) (u : Update) (form : Option (List ℕ)) → IsSound m → u.gvsn.version < 2 ^ 64 → adopt_refusal m u ≡ None → IsStagedOf u form → MayTake (cmd.Adopt u form) m
+may_adopt m u form h fits none staged =
     let clear = is_clear m u none in
     let last = clear.taken.version in
     let below : u.gvsn.version < 2 ^ 64 - 1 = omega (arith, fits, last) in
     record {
       allowed = small u.gvsn.version below;
-      sound = λ new book c. adopted_sound m u new h clear.taken.set_is clear.taken.clock clear.version (λ set. is_fit m u h.order clear set) book c;
+      sound = λ new book c. adopted_sound m u form new h clear.taken.set_is clear.taken.clock clear.version (λ set. is_fit m u h.order clear set) staged book c;
       changes = λ new c same. (let covered : covers m.book.vector u.gvsn ≡ true = ap (λ l. covers l u.gvsn) (sym same) ∙ (c.vector.covering u.gvsn ∙ plus_new (covers m.book.vector) u.gvsn) in cc (covered, clear.new));
     }
   where
@@ -203,3 +207,32 @@ answers_recorded m now moment usn u found (Ok a) new p q is e has h =
     let small : u.clock < 2 ^ 62 = subst HasClock is has in
     answers_made now moment u a.reply new e' small (subst (λ n. Takes (cmd.RecordLocal n (Some u)) (Made u.gvsn) now a.reply new) (q ∙ ap (λ (x : Machine). x.book.consumed) p) h)
 answers_recorded m now moment usn u found (Err x) new p q is e has h = tt
+
+-- ---- forms
+
+-- what is staged with an update is what it is to be
+pub staged_of : (u : Update) (form : Option (List ℕ)) (staged : Result (Option (List ℕ)) Refusal) (given : Option (List ℕ)) → Stages u form staged → staged ≡ Ok given → IsStagedOf u given
+staged_of u form staged given h is = by (is_file u) refl h
+  where
+    ok_is : (x y : Option (List ℕ)) → staged ≡ Ok x → staged ≡ Ok y → x ≡ y
+    ok_is x y p q = cc
+
+    err_ok : (w : Refusal) (x : Option (List ℕ)) → staged ≡ Err w → staged ≡ Ok x → ⊥
+    err_ok w x p q = cc
+
+    some_is : (x y : List ℕ) → Some x ≡ Some y → x ≡ y
+    some_is x y e = cc
+
+    by : (b : Bool) → is_file u ≡ b → MatchBool b (ChecksForm (unwrap_or form []) u.hash (Some (unwrap_or form [])) staged) (staged ≡ Ok None) → IsStagedOf u given
+    by true file (inl (at, bad, refused)) = absurd (err_ok _ given refused is)
+    by true file (inr (contents, local, inl (other, refused))) = absurd (err_ok _ given refused is)
+    by true file (inr (contents, local, inr (same, taken))) =
+        subst (IsStagedOf u) (ok_is (Some (unwrap_or form [])) given taken is) (record {
+          sum = ap (λ s. Some s) same ∙ ap (λ b. if b then Some u.hash else None) (sym file);
+          local = λ f e. (contents, subst (λ g. IsLocalForm g contents) (some_is (unwrap_or form []) f e) local);
+        })
+    by false other nothing =
+        subst (IsStagedOf u) (ok_is None given nothing is) (record {
+          sum = ap (λ b. if b then Some u.hash else None) (sym other);
+          local = nothing_staged;
+        })

@@ -7,7 +7,6 @@ use Rattle.frs_base.specs.Options.{In, kept_if}
 use Rattle.frs_base.specs.Versions.{same_uid}
 use Rattle.frs_base.specs.declared.kind.Kind.{Kind}
 use Rattle.frs_base.specs.declared.kind.Kind.TheVariants as kind
-use Rattle.frs_base.specs.declared.sum.Sum.{Sum}
 use Rattle.frs_base.specs.declared.version.Uid.{Uid}
 use Rattle.version_vector.specs.Versions.{covers}
 use Rattle.win_order.specs.Refusals.{has_no_version, is_compressed, is_of_root, is_skewed, unfit_of}
@@ -26,8 +25,8 @@ use Rattle.name_rules.specs.Recorded.{held_of}
 use Rattle.name_rules.specs.Tree.{kind_of}
 use Rattle.world_model.specs.Folder.{IsFit, IsFound}
 use Rattle.folder_core.specs.declared.refusal.Refusal.TheVariants.{Doubled, KindDiffers, OwnAhead, Unfit as IsUnfit}
-use Rattle.folder_core.specs.Machine.{Machine, is_ahead}
-use Rattle.folder_core.specs.Adopt.{adopt_refusal, beaten, doubled, first_of, kind_at, kind_differs, own_ahead, same_kind, unfit}
+use Rattle.folder_core.specs.Machine.{Machine, first_of, is_ahead}
+use Rattle.folder_core.specs.Adopt.{adopt_refusal, beaten, doubled, kind_at, kind_differs, own_ahead, same_kind, unfit}
 use Rattle.folder_core.specs.Sound.{IsInOrder, member_of}
 use Rattle.folder_core.proofs.Held.{held_is}
 
@@ -148,7 +147,7 @@ object_in (x ∷ xs) fid o e = by (eqb x.fid fid) e (λ later. object_in xs fid 
     by true e later = inl (cc)
     by false e later = inr (later e)
 
-object_found : (v : State) → IsVolume v → (fid : ℕ) (o : Object) (uid : Uid) → IsAt (maps_of v) fid o → uid_of v.own o ≡ uid → object_of v uid ≡ Some o
+pub object_found : (v : State) → IsVolume v → (fid : ℕ) (o : Object) (uid : Uid) → IsAt (maps_of v) fid o → uid_of v.own o ≡ uid → object_of v uid ≡ Some o
 object_found v volume fid o uid at same =
     let there = object_in v.objects fid o at in
     let (b, is, found, alike) = found_by v.own v.objects o there in
@@ -172,9 +171,9 @@ not_root u e set same =
     no : (db set version : ℕ) → (eqb db set && eqb version 1) ≡ false → db ≡ set → version ≡ 1 → ⊥
     no db set version e p q = grind (arith, nat_tests)
 
--- an update that isn't refused is fit, for any staged contents
-pub is_fit : (m : Machine) (u : Update) → IsInOrder m → IsClear m u → m.book.set ≡ content_set → (staged : Uid → Option Sum) → IsFit m.book.own (member_of m staged) m.book.records u
-is_fit m u order clear set staged = record {
+-- an update that isn't refused is fit
+pub is_fit : (m : Machine) (u : Update) → IsInOrder m → IsClear m u → m.book.set ≡ content_set → IsFit m.book.own (member_of m) m.book.records u
+is_fit m u order clear set = record {
   new = clear.new;
   version_ahead = clear.version;
   file_ahead = clear.file;

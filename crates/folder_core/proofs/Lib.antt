@@ -1,10 +1,12 @@
 pub mod Alike
 pub mod Volumes
 pub mod Held
+pub mod Staging
 pub mod Bounds
 pub mod Agreeing
 pub mod Sounding
 pub mod Fitting
+pub mod Giving
 pub mod Consuming
 pub mod Finishing
 pub mod Replaying

@@ -1,8 +1,10 @@
 -- An event has one answer, and leads to one machine.
 use Rattle.std.proofs.Common.{◌≡◌, ◌<◌, ◌+◌, ◌||◌, ℕ, Bool, true, false, ltb, List, [], ◌∷◌, Option, Some, None, Result, Ok, Err, refl, sym, ap, ◌∙◌, subst, inl, inr, arith}
-use Rattle.std.specs.Prelude.{MatchBool, MatchOption, MatchResult}
+use Rattle.std.specs.Prelude.{MatchBool, MatchOption, MatchResult, unwrap_or}
 use Rattle.std.proofs.lemmas.Bool.Decides.{nat_tests}
 use Rattle.frs_base.specs.declared.version.Gvsn.{Gvsn}
+use Rattle.frs_base.specs.declared.sum.Sum.{Sum}
+use Rattle.marshal_form.proofs.Locals.{local_bad_places_are_one, local_forms_have_no_bad_place}
 use Rattle.version_vector.specs.Limits.{IsTooLong}
 use Rattle.version_vector.specs.Places.{one_version}
 use Rattle.version_vector.specs.Unions.{inserted}
@@ -15,6 +17,7 @@ use Rattle.win_order.specs.declared.update.Update.{Update}
 use Rattle.vol_state.specs.declared.command.VolCmd.{VolCmd}
 use Rattle.vol_state.specs.declared.operation.Refused.{Refused}
 use Rattle.vol_state.specs.Paths.{resolve}
+use Rattle.name_rules.specs.Tree.{is_file}
 use Rattle.record_db.specs.declared.command.BookCmd.{BookCmd}
 use Rattle.record_db.specs.declared.command.BookCmd.TheVariants as cmd
 use Rattle.record_db.specs.State.{BookState, IsVector}
@@ -29,7 +32,7 @@ use Rattle.folder_core.specs.Machine.{Machine, Refuses}
 use Rattle.folder_core.specs.Books.{Changed, Takes}
 use Rattle.folder_core.specs.Local.{Operates}
 use Rattle.folder_core.specs.Consume.{AnswersRecord, is_at_end, made_at}
-use Rattle.folder_core.specs.Adopt.{adopt_refusal}
+use Rattle.folder_core.specs.Adopt.{AnswersForm, ChecksForm, Stages, adopt_refusal}
 use Rattle.folder_core.specs.Finish.{IsLeastAhead, first_unheld}
 use Rattle.folder_core.specs.Laws.{AnswersAreOne, Runs, RunsAreOne}
 
@@ -89,7 +92,7 @@ covers_after (cmd.RecordLocal usn u) book form = (
     covering = λ h. adds_version (own_version book usn) book.vector form h;
   },
 )
-covers_after (cmd.Adopt u) book form = (
+covers_after (cmd.Adopt u staged) book form = (
   inserted (one_version u.gvsn) book.vector,
   record {
     canonical = inserted_form (one_version u.gvsn) book.vector (omega arith) form;
@@ -97,6 +100,7 @@ covers_after (cmd.Adopt u) book form = (
   },
 )
 covers_after (cmd.Finish sent) book form = covers_both book.vector sent form
+covers_after (cmd.Unstage uid) book form = (book.vector, record { canonical = form; covering = λ h. refl })
 
 -- ---- commands on the book
 
@@ -109,7 +113,8 @@ changes_one op old x y c d =
     let records = c.records ∙ sym d.records in
     let consumed = c.consumed ∙ sym d.consumed in
     let phase = c.phase ∙ sym d.phase in
-    (λ i. record { kind = kind i; own = own i; set = set i; records = records i; vector = vector i; consumed = consumed i; phase = phase i })
+    let staged = c.staged ∙ sym d.staged in
+    (λ i. record { kind = kind i; own = own i; set = set i; records = records i; vector = vector i; consumed = consumed i; phase = phase i; staged = staged i })
 
 changed_one : (op : BookCmd) (old x y : Machine) → Changed op old x → Changed op old y → x ≡ y
 changed_one op old x y c d =
@@ -157,6 +162,39 @@ choice_one : {T : Type 0} (found : Option T) (op : BookCmd) (done : Reply) (w : 
 choice_one None op done w p q old x y form h k = takes_one op done p q old x y form h k
 choice_one (Some t) op done w p q old x y form h k = refusals_one old (w t) p q x y h k
 
+-- bytes are taken or refused in one way
+checks_one : {T : Type 0} (form : List ℕ) (want : Sum) (taken : T) (a b : Result T Refusal) → ChecksForm form want taken a → ChecksForm form want taken b → a ≡ b
+checks_one form want taken a b (inl (at, bad, p)) (inl (other, worse, q)) = p ∙ (ap (λ n. Err (why.MarshalBad n)) (local_bad_places_are_one form at other bad worse) ∙ sym q)
+checks_one form want taken a b (inl (at, bad, p)) (inr (contents, local, q)) = absurd (local_forms_have_no_bad_place form contents at local bad)
+checks_one form want taken a b (inr (contents, local, p)) (inl (at, bad, q)) = absurd (local_forms_have_no_bad_place form contents at local bad)
+checks_one form want taken a b (inr (contents, local, inl (other, p))) (inr (more, too, inl (differs, q))) = p ∙ sym q
+checks_one form want taken a b (inr (contents, local, inl (other, p))) (inr (more, too, inr (same, q))) = absurd (other same)
+checks_one form want taken a b (inr (contents, local, inr (same, p))) (inr (more, too, inl (other, q))) = absurd (other same)
+checks_one form want taken a b (inr (contents, local, inr (same, p))) (inr (more, too, inr (also, q))) = p ∙ sym q
+
+stages_one : (u : Update) (form : Option (List ℕ)) (a b : Result (Option (List ℕ)) Refusal) → Stages u form a → Stages u form b → a ≡ b
+stages_one u form a b h k = by (is_file u) h k
+  where
+    bytes : List ℕ
+    bytes = unwrap_or form []
+
+    by : (file : Bool) → MatchBool file (ChecksForm bytes u.hash (Some bytes) a) (a ≡ Ok None) → MatchBool file (ChecksForm bytes u.hash (Some bytes) b) (b ≡ Ok None) → a ≡ b
+    by true p q = checks_one bytes u.hash (Some bytes) a b p q
+    by false p q = p ∙ sym q
+
+form_one : (staged : Result (Option (List ℕ)) Refusal) (u : Update) (p q : Reply) (old x y : Machine) → IsCanonical old.book.vector
+    → MatchResult staged (λ given. Takes (cmd.Adopt u given) reply.Adopted old p x) (λ w. Refuses w old p x)
+    → MatchResult staged (λ given. Takes (cmd.Adopt u given) reply.Adopted old q y) (λ w. Refuses w old q y) → AreOne p x q y
+form_one (Ok given) u p q old x y form h k = takes_one _ _ p q old x y form h k
+form_one (Err w) u p q old x y form h k = refusals_one old w p q x y h k
+
+adopt_one : (found : Option Refusal) (u : Update) (given : Option (List ℕ)) (p q : Reply) (old x y : Machine) → IsCanonical old.book.vector
+    → MatchOption found (AnswersForm u given old p x) (λ w. Refuses w old p x) → MatchOption found (AnswersForm u given old q y) (λ w. Refuses w old q y) → AreOne p x q y
+adopt_one (Some w) u given p q old x y form h k = refusals_one old w p q x y h k
+adopt_one None u given p q old x y form (staged, stages, h) (other, also, k) =
+    form_one staged u p q old x y form h
+    (subst (λ r. MatchResult r (λ g. Takes (cmd.Adopt u g) reply.Adopted old q y) (λ w. Refuses w old q y)) (stages_one u given other staged also stages) k)
+
 least_one : (old : Machine) (sent : List Interval) (n m : ℕ) → IsLeastAhead old sent n → IsLeastAhead old sent m → n ≡ m
 least_one old sent n m h k =
     let low = h.1 m k.0 in
@@ -169,7 +207,7 @@ answers_are_one at old (event.Local operation) a b x y sound h k = operations_on
 answers_are_one at old (event.Consume moment) a b x y sound h k = consume_one (is_at_end old) (made_at old moment) a b old x y sound.order.book.canonical h k
 answers_are_one at old event.Vector a b x y sound (p, q) (r, s) = (p ∙ sym r, q ∙ sym s)
 answers_are_one at old (event.File uid) a b x y sound (p, q) (r, s) = (p ∙ sym r, q ∙ sym s)
-answers_are_one at old (event.Adopt from place u form) a b x y sound h k = choice_one (adopt_refusal old u) _ _ (λ w. w) a b old x y sound.order.book.canonical h k
+answers_are_one at old (event.Adopt from place u form) a b x y sound h k = adopt_one (adopt_refusal old u) u form a b old x y sound.order.book.canonical h k
 answers_are_one at old (event.Finish from place sent seen) a b x y sound (inl (n, least, p)) (inl (m, lesser, q)) =
     (p.0 ∙ (ap (λ k. reply.Refused (why.OwnAhead k)) (least_one old sent n m least lesser) ∙ sym q.0), p.1 ∙ sym q.1)
 answers_are_one at old (event.Finish from place sent seen) a b x y sound (inl (n, least, p)) (inr (none, k)) = absurd (none n least.0)

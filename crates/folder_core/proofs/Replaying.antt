@@ -6,6 +6,7 @@ use Rattle.vol_state.specs.declared.command.VolCmd.{VolCmd}
 use Rattle.vol_state.specs.declared.operation.Refused.{Refused}
 use Rattle.vol_state.specs.Paths.{resolve}
 use Rattle.record_db.specs.declared.command.BookCmd.{BookCmd}
+use Rattle.record_db.specs.declared.command.BookCmd.TheVariants as cmd
 use Rattle.folder_core.specs.declared.answer.Answer.{Answer}
 use Rattle.folder_core.specs.declared.entry.Entry.{Entry}
 use Rattle.folder_core.specs.declared.mark.Mark.{Mark}
@@ -21,7 +22,7 @@ use Rattle.folder_core.specs.Notes.{mark_of, note_of}
 use Rattle.folder_core.specs.Books.{Takes}
 use Rattle.folder_core.specs.Local.{Operates}
 use Rattle.folder_core.specs.Consume.{AnswersRecord, is_at_end, made_at}
-use Rattle.folder_core.specs.Adopt.{adopt_refusal}
+use Rattle.folder_core.specs.Adopt.{AnswersForm, adopt_refusal}
 use Rattle.folder_core.specs.Finish.{first_unheld}
 use Rattle.folder_core.specs.Answers.{Answers}
 use Rattle.folder_core.specs.Given.{IsNoted}
@@ -40,14 +41,14 @@ pub record Keeps (old new : Machine) : Type 0 where
 same_keeps : (old new : Machine) → new ≡ old → Keeps old new
 same_keeps old new same = subst (λ m. Keeps old m) (sym same) (record { kind = refl; own = refl; set = refl; usn = omega arith })
 
-takes_keep : (cmd : BookCmd) (done said : Reply) (old new : Machine) → Takes cmd done old said new → Keeps old new
-takes_keep cmd done said old new (inl (is, c)) = record {
+takes_keep : (op : BookCmd) (done said : Reply) (old new : Machine) → Takes op done old said new → Keeps old new
+takes_keep op done said old new (inl (is, c)) = record {
   kind = c.book.kind;
   own = c.book.own;
   set = c.book.set;
   usn = let same = ap (λ v. v.next_usn) c.volume in omega (arith, same);
 }
-takes_keep cmd done said old new (inr (count, full)) = same_keeps old new full.1.1
+takes_keep op done said old new (inr (count, full)) = same_keeps old new full.1.1
 
 local_keeps : (old new : Machine) (said : Reply) (r : Result VolCmd Refused) → MatchResult r (λ cmd. Operates cmd old said new) (λ w. Refuses (why.Local w) old said new) → Keeps old new
 local_keeps old new said (Ok cmd) (is, same) = record {
@@ -75,13 +76,22 @@ choice_keeps : {T : Type 0} (old new : Machine) (said : Reply) (x : Option T) (c
 choice_keeps old new said None cmd done w h = takes_keep cmd done said old new h
 choice_keeps old new said (Some y) cmd done w h = same_keeps old new h.1
 
+form_keeps : (old new : Machine) (said : Reply) (u : Update) (staged : Result (Option (List ℕ)) Refusal)
+    → MatchResult staged (λ given. Takes (cmd.Adopt u given) reply.Adopted old said new) (λ w. Refuses w old said new) → Keeps old new
+form_keeps old new said u (Ok given) h = takes_keep _ _ said old new h
+form_keeps old new said u (Err w) h = same_keeps old new h.1
+
+adopt_keeps : (old new : Machine) (said : Reply) (u : Update) (form : Option (List ℕ)) (x : Option Refusal) → MatchOption x (AnswersForm u form old said new) (λ w. Refuses w old said new) → Keeps old new
+adopt_keeps old new said u form None (staged, stages, h) = form_keeps old new said u staged h
+adopt_keeps old new said u form (Some w) h = same_keeps old new h.1
+
 -- so does every event
 pub answers_keep : (at : ℕ) (old new : Machine) (e : Event) (said : Reply) → Answers at old e said new → Keeps old new
 answers_keep at old new (event.Local operation) said h = local_keeps old new said (resolve old.volume.objects operation) h
 answers_keep at old new (event.Consume moment) said h = consume_keeps old new said (made_at old moment) (is_at_end old) h
 answers_keep at old new event.Vector said h = same_keeps old new h.1
 answers_keep at old new (event.File uid) said h = same_keeps old new h.1
-answers_keep at old new (event.Adopt from place u form) said h = choice_keeps old new said (adopt_refusal old u) _ _ (λ w. w) h
+answers_keep at old new (event.Adopt from place u form) said h = adopt_keeps old new said u form (adopt_refusal old u) h
 answers_keep at old new (event.Finish from place sent seen) said (inl (version, least, refuses)) = same_keeps old new refuses.1
 answers_keep at old new (event.Finish from place sent seen) said (inr (none, h)) = choice_keeps old new said (first_unheld old.book.records seen) _ _ (λ u. why.Unheld u.uid) h
 

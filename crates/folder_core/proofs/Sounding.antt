@@ -1,10 +1,9 @@
 -- A machine stays sound, whatever its partners send.
-use Rattle.std.proofs.Common.{◌≡◌, ◌<◌, ◌≤◌, ◌-◌, ◌^◌, ℕ, true, List, Option, refl, sym, ◌∙◌, subst, arith}
+use Rattle.std.proofs.Common.{◌≡◌, ◌<◌, ◌≤◌, ◌-◌, ◌^◌, ℕ, true, List, Option, Some, None, refl, sym, ◌∙◌, subst, arith}
+use Rattle.std.specs.Prelude.{if◌then◌else◌, option_map}
 use Rattle.frs_base.specs.Identifiers.{content_set}
 use Rattle.frs_base.specs.declared.kind.MemberKind.{MemberKind}
-use Rattle.frs_base.specs.declared.sum.Sum.{Sum}
 use Rattle.frs_base.specs.declared.version.Gvsn.{Gvsn}
-use Rattle.frs_base.specs.declared.version.Uid.{Uid}
 use Rattle.version_vector.specs.Versions.{covers}
 use Rattle.version_vector.specs.declared.interval.Interval.{Interval}
 use Rattle.win_order.specs.declared.update.Update.{Update}
@@ -13,7 +12,7 @@ use Rattle.vol_state.specs.Conditions.{is_allowed, step}
 use Rattle.vol_state.specs.Effects.{effect}
 use Rattle.vol_state.specs.Journal.{IsNumbered}
 use Rattle.vol_state.specs.Laws.{AreFree, KeepsNumbering, LeavesNumbersFree}
-use Rattle.vol_state.specs.Maps.{StandsOn, maps_of}
+use Rattle.vol_state.specs.Maps.{StandsOn, maps_of, write}
 use Rattle.vol_state.specs.Tables.{IsLocal}
 use Rattle.vol_state.specs.Valid.{IsVolume}
 use Rattle.vol_state.specs.Seen.{fresh_state}
@@ -22,10 +21,15 @@ use Rattle.record_db.specs.declared.command.BookCmd.TheVariants as cmd
 use Rattle.record_db.specs.State.{BookState, IsBook, fresh_book}
 use Rattle.record_db.specs.Steps.{Changes, consumed_after}
 use Rattle.world_model.specs.Folder.{IsFit}
+use Rattle.name_rules.specs.Tree.{is_file}
 use Rattle.world_model.proofs.Folder.{folders_begin}
+use Rattle.world_model.proofs.Sums.{AreSummed, write_sums}
 use Rattle.folder_core.specs.Machine.{Machine, fresh_machine}
 use Rattle.folder_core.specs.Consume.{made_at}
 use Rattle.folder_core.specs.Sound.{IsInOrder, IsSound, member_of}
+use Rattle.folder_core.specs.Notes.{form_sum}
+use Rattle.folder_core.proofs.Alike.{maps_are, stands_for_maps}
+use Rattle.folder_core.proofs.Staging.{IsStageable, forms_made, forms_stay, forms_with}
 use Rattle.folder_core.proofs.Volumes.{free_fresh, has_all, in_time, one_fid, one_usn, same_own, step_is}
 use Rattle.folder_core.proofs.Bounds.{HasClock, bounds_adopted, bounds_finished, bounds_recorded}
 use Rattle.folder_core.proofs.Agreeing.{agrees_adopted, agrees_finished, agrees_operated, agrees_recorded}
@@ -53,8 +57,13 @@ fresh_is_sound kind own set volume book = record {
     ahead = λ g covered. absurd (cc covered);
     clocks = tt;
   };
-  agrees = λ same. (λ uid. Option.None, folders_begin own kind);
+  forms = λ uid form e. absurd (none_some form e);
+  sums = λ fid o at. absurd (none_some o at);
+  agrees = λ same. folders_begin own kind;
 }
+  where
+    none_some : {T : Type 0} (x : T) → None ≡ Some x → ⊥
+    none_some x e = cc
 
 -- ---- a local operation
 
@@ -76,6 +85,10 @@ operated_sound laws m op h numbers allowed local volume = record {
     consumed = let usn = one_usn op m.volume in let low = h.order.consumed in omega (arith, usn, low);
   };
   bounds = h.bounds;
+  forms = h.forms;
+  sums = subst AreSummed
+      (maps_are (effect op m.volume) (write m.volume.own op (maps_of m.volume)) (laws.on op m.volume (maps_of m.volume) h.order.volume h.order.free allowed (stands_for_maps m.volume)))
+      (write_sums m.volume.own op (maps_of m.volume) h.sums);
   agrees = λ set. agrees_operated laws.on m op h.order allowed local (h.agrees set);
 }
 
@@ -98,17 +111,26 @@ pub recorded_sound : (m : Machine) (moment : ℕ) (made : Option Update) (new : 
 recorded_sound m moment made new h is has left book c = record {
   order = order_after m (cmd.RecordLocal m.book.consumed made) new h.order (omega (arith, left)) book c;
   bounds = bounds_recorded m.book new made h.bounds has c;
+  forms = forms_made m.book new made c.staged h.forms;
+  sums = h.sums;
   agrees = λ set. agrees_recorded m moment made new h.order (sym c.set ∙ set) is h.bounds.begun left c (h.agrees (sym c.set ∙ set));
 }
 
+-- what is staged of an update: the form with its hash of a present file, which is one of a local file, and nothing of all else
+pub record IsStagedOf (u : Update) (form : Option (List ℕ)) : Type 0 where
+  pub sum : option_map form_sum form ≡ (if is_file u then Some u.hash else None)
+  pub local : IsStageable form
+
 -- taking a fit update does
-pub adopted_sound : (m : Machine) (u : Update) (new : BookState) → IsSound m → u.set ≡ m.book.set → u.clock < 2 ^ 62 → (u.gvsn.db ≡ m.book.own → u.gvsn.version < m.book.consumed)
-    → (m.book.set ≡ content_set → (staged : Uid → Option Sum) → IsFit m.book.own (member_of m staged) m.book.records u)
-    → IsBook new → Changes (cmd.Adopt u) m.book new → IsSound (record m { book = new })
-adopted_sound m u new h set clock made fit book c = record {
-  order = order_after m (cmd.Adopt u) new h.order h.order.consumed book c;
-  bounds = bounds_adopted m.book new u h.bounds clock made c;
-  agrees = λ same. agrees_adopted m u new set (fit (sym c.set ∙ same)) c (h.agrees (sym c.set ∙ same));
+pub adopted_sound : (m : Machine) (u : Update) (form : Option (List ℕ)) (new : BookState) → IsSound m → u.set ≡ m.book.set → u.clock < 2 ^ 62 → (u.gvsn.db ≡ m.book.own → u.gvsn.version < m.book.consumed)
+    → (m.book.set ≡ content_set → IsFit m.book.own (member_of m) m.book.records u) → IsStagedOf u form
+    → IsBook new → Changes (cmd.Adopt u form) m.book new → IsSound (record m { book = new })
+adopted_sound m u form new h set clock made fit staged book c = record {
+  order = order_after m (cmd.Adopt u form) new h.order h.order.consumed book c;
+  bounds = bounds_adopted m.book new u form h.bounds clock made c;
+  forms = forms_with m.book new u.uid form c.staged staged.local h.forms;
+  sums = h.sums;
+  agrees = λ same. agrees_adopted m u form new set (fit (sym c.set ∙ same)) staged.sum c (h.agrees (sym c.set ∙ same));
 }
 
 -- finishing a round over a fit vector does
@@ -117,5 +139,7 @@ pub finished_sound : (m : Machine) (sent : List Interval) (new : BookState) → 
 finished_sound m sent new h fit book c = record {
   order = order_after m (cmd.Finish sent) new h.order h.order.consumed book c;
   bounds = bounds_finished m.book new sent h.bounds fit c;
-  agrees = λ same. agrees_finished m sent new (λ staged. fit) c (h.agrees (sym c.set ∙ same));
+  forms = forms_stay m.book new c.staged h.forms;
+  sums = h.sums;
+  agrees = λ same. agrees_finished m sent new fit c (h.agrees (sym c.set ∙ same));
 }

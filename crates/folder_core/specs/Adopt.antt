@@ -1,8 +1,10 @@
 -- A partner's update is taken.
-use Rattle.std.specs.Prelude.{not, Bool, true, false, if◌then◌else◌, MatchOption, List, [], ◌∷◌, Option, Some, None, option_map}
+use Rattle.std.specs.Prelude.{◌≡◌, ◌≢◌, ◌⊎◌, not, ℕ, Bool, true, false, if◌then◌else◌, MatchBool, MatchOption, MatchResult, List, [], ◌∷◌, Option, Some, None, Result, Ok, Err, option_map, unwrap_or}
 use Rattle.frs_base.specs.Options.{kept_if}
+use Rattle.marshal_form.specs.Local.{IsFirstBadLocal, IsLocalForm}
 use Rattle.frs_base.specs.declared.kind.Kind.{Kind}
 use Rattle.frs_base.specs.declared.kind.Kind.TheVariants as kind
+use Rattle.frs_base.specs.declared.sum.Sum.{Sum}
 use Rattle.frs_base.specs.declared.version.Uid.{Uid}
 use Rattle.version_vector.specs.Versions.{covers}
 use Rattle.win_order.specs.Order.{key_lt, key_of}
@@ -11,19 +13,14 @@ use Rattle.win_order.specs.declared.update.Update.{Update}
 use Rattle.vol_state.specs.State.{object_of}
 use Rattle.record_db.specs.declared.command.BookCmd.TheVariants as cmd
 use Rattle.name_rules.specs.Recorded.{held_of}
-use Rattle.name_rules.specs.Tree.{kind_of}
+use Rattle.name_rules.specs.Tree.{is_file, kind_of}
 use Rattle.folder_core.specs.declared.refusal.Refusal.{Refusal}
-use Rattle.folder_core.specs.declared.refusal.Refusal.TheVariants.{Beaten, Doubled, KindDiffers, OwnAhead, Unfit}
+use Rattle.folder_core.specs.declared.refusal.Refusal.TheVariants.{Beaten, Doubled, HashDiffers, KindDiffers, MarshalBad, OwnAhead, Unfit}
 use Rattle.folder_core.specs.declared.reply.Reply.{Reply}
 use Rattle.folder_core.specs.declared.reply.Reply.TheVariants.{Adopted}
-use Rattle.folder_core.specs.Machine.{Machine, Refuses, is_ahead}
+use Rattle.folder_core.specs.Machine.{Machine, Refuses, first_of, is_ahead}
+use Rattle.folder_core.specs.Notes.{form_sum}
 use Rattle.folder_core.specs.Books.{Takes}
-
--- the first of several answers that is one
-abbrev pub first_of : {T : Type 0} → List (Option T) → Option T
-first_of [] = None
-first_of (Some x ∷ rest) = Some x
-first_of (None ∷ rest) = first_of rest
 
 -- two kinds are one
 abbrev pub same_kind : Kind → Kind → Bool
@@ -62,7 +59,26 @@ doubled m u = if covers m.book.vector u.gvsn then Some (Doubled u.gvsn) else Non
 abbrev pub adopt_refusal : Machine → Update → Option Refusal
 adopt_refusal m u = first_of (unfit m u ∷ own_ahead m u ∷ kind_differs m u ∷ beaten m u ∷ doubled m u ∷ [])
 
--- the first refusal stands, or the update is the record of its file
-abbrev pub AnswersAdopt : Update → Machine → Reply → Machine → Type 0
-AnswersAdopt u old reply new =
-    MatchOption (adopt_refusal old u) (Takes (cmd.Adopt u) Adopted old reply new) (λ why. Refuses why old reply new)
+-- ---- its form
+
+-- bytes are refused at the first place at which they are no form of a local file, then where their sum isn't the one that is wanted; else they are taken as this
+abbrev pub ChecksForm : {T : Type 0} → List ℕ → Sum → T → Result T Refusal → Type 0
+ChecksForm form want taken outcome =
+    ((at : ℕ) × IsFirstBadLocal form at × (outcome ≡ Err (MarshalBad at)))
+    ⊎ ((contents : List ℕ) × IsLocalForm form contents
+    × (((form_sum form ≢ want) × (outcome ≡ Err (HashDiffers want (form_sum form)))) ⊎ ((form_sum form ≡ want) × (outcome ≡ Ok taken))))
+
+-- what is staged with an update, or why its form is refused: of a present file its form, where no form is one of no bytes; of all else nothing
+abbrev pub Stages : Update → Option (List ℕ) → Result (Option (List ℕ)) Refusal → Type 0
+Stages u form staged = MatchBool (is_file u) (ChecksForm (unwrap_or form []) u.hash (Some (unwrap_or form [])) staged) (staged ≡ Ok None)
+
+-- the update is the record of its file, or its form is refused
+abbrev pub AnswersForm : Update → Option (List ℕ) → Machine → Reply → Machine → Type 0
+AnswersForm u form old reply new =
+    (staged : Result (Option (List ℕ)) Refusal) × Stages u form staged
+    × MatchResult staged (λ given. Takes (cmd.Adopt u given) Adopted old reply new) (λ why. Refuses why old reply new)
+
+-- the first refusal stands; else the form is looked at
+abbrev pub AnswersAdopt : Update → Option (List ℕ) → Machine → Reply → Machine → Type 0
+AnswersAdopt u form old reply new =
+    MatchOption (adopt_refusal old u) (AnswersForm u form old reply new) (λ why. Refuses why old reply new)

@@ -16,5 +16,5 @@ Answers at old (Local operation) reply new = AnswersLocal operation old reply ne
 Answers at old (Consume moment) reply new = AnswersConsume moment old reply new
 Answers at old Vector reply new = AnswersVector at old reply new
 Answers at old (File uid) reply new = AnswersFile uid at old reply new
-Answers at old (Adopt from place u form) reply new = AnswersAdopt u old reply new
+Answers at old (Adopt from place u form) reply new = AnswersAdopt u form old reply new
 Answers at old (Finish from place sent seen) reply new = AnswersFinish sent seen old reply new

@@ -43,7 +43,7 @@ note_of (event.Finish from at sent seen) = note.Finish from at sent seen
 
 -- an answer about a file
 abbrev pub file_mark_of : FileAnswer → FileMark
-file_mark_of (answer.Found at update) = file.Found at update
+file_mark_of (answer.Found at update body) = file.Found at update
 file_mark_of (answer.NotYet usn) = file.NotYet usn
 file_mark_of answer.NoRecord = file.NoRecord
 

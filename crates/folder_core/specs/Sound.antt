@@ -1,40 +1,57 @@
 -- What is true of every member's machine, whatever its partners send.
-use Rattle.std.specs.Prelude.{◌≡◌, ◌<◌, ◌≤◌, ◌^◌, true, Option}
+use Rattle.std.specs.Prelude.{◌≡◌, ◌<◌, ◌≤◌, ◌^◌, ℕ, true, List, Option, Some, option_map}
 use Rattle.std.specs.List.{AllByRecursion}
 use Rattle.frs_base.specs.Identifiers.{content_set}
 use Rattle.frs_base.specs.declared.sum.Sum.{Sum}
 use Rattle.frs_base.specs.declared.version.Gvsn.{Gvsn}
 use Rattle.frs_base.specs.declared.version.Uid.{Uid}
+use Rattle.marshal_form.specs.Local.{IsLocalForm}
 use Rattle.version_vector.specs.Versions.{covers}
 use Rattle.vol_state.specs.Journal.{IsNumbered}
 use Rattle.vol_state.specs.Laws.{AreFree}
+use Rattle.vol_state.specs.declared.object.Object.{Object}
 use Rattle.vol_state.specs.Maps.{maps_of}
+use Rattle.vol_state.specs.Sums.{content_sum}
+use Rattle.vol_state.specs.Tables.{IsAt}
 use Rattle.vol_state.specs.Valid.{IsVolume}
-use Rattle.record_db.specs.State.{BookState, IsBook}
+use Rattle.record_db.specs.State.{BookState, IsBook, form_of}
 use Rattle.world_model.specs.Folder.{FolderIsSound}
 use Rattle.world_model.specs.World.{Member}
 use Rattle.folder_core.specs.Machine.{Machine}
+use Rattle.folder_core.specs.Notes.{form_sum}
 
--- the machine as a member of the world, with these staged contents
-abbrev pub member_of : Machine → (Uid → Option Sum) → Member
-member_of m staged = record {
+-- the sums of the forms that are staged
+abbrev pub staged_sums : BookState → Uid → Option Sum
+staged_sums book uid = option_map form_sum (form_of book uid)
+
+-- the machine as a member of the world
+abbrev pub member_of : Machine → Member
+member_of m = record {
   known = covers m.book.vector;
   volume = maps_of m.volume;
   consumed = m.book.consumed;
   kind = m.book.kind;
   phase = m.book.phase;
-  staged = staged;
+  staged = staged_sums m.book;
 }
 
--- the volume and the records agree, for some staged contents
+-- the volume, the records and what is staged agree
 abbrev pub Agrees : Machine → Type 0
-Agrees m = (staged : Uid → Option Sum) × FolderIsSound m.book.own (member_of m staged) m.book.records
+Agrees m = FolderIsSound m.book.own (member_of m) m.book.records
 
 -- no own version is covered that isn't consumed, and clocks stay below 2^62
 pub record IsInBounds (book : BookState) : Type 0 where
   pub begun : 9 ≤ book.consumed
   pub ahead : (g : Gvsn) → covers book.vector g ≡ true → g.db ≡ book.own → g.version < book.consumed
   pub clocks : AllByRecursion (λ u. u.clock < 2 ^ 62) book.records
+
+-- each form that is staged is one of a local file
+abbrev pub HasForms : BookState → Type 0
+HasForms book = (uid : Uid) (form : List ℕ) → form_of book uid ≡ Some form → (contents : List ℕ) × IsLocalForm form contents
+
+-- each object has the sum of its contents
+abbrev pub HasSums : Machine → Type 0
+HasSums m = (fid : ℕ) (o : Object) → IsAt (maps_of m.volume) fid o → o.sum ≡ content_sum o.kind o.bytes
 
 -- the journal's USNs run from 9 without a gap up to the next, all numbers in use are below the next ones
 pub record IsInOrder (m : Machine) : Type 0 where
@@ -50,4 +67,6 @@ pub record IsInOrder (m : Machine) : Type 0 where
 pub record IsSound (m : Machine) : Type 0 where
   pub order : IsInOrder m
   pub bounds : IsInBounds m.book
+  pub forms : HasForms m.book
+  pub sums : HasSums m
   pub agrees : m.book.set ≡ content_set → Agrees m

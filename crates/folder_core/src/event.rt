@@ -20,7 +20,8 @@ pub enum Event {
         uid: Uid,
     },
     /// An update is taken that the member of the database `from` sent in the entry `at` of its
-    /// history. The form, which a present file will come with, isn't looked at yet.
+    /// history. A present file comes with the form of its contents, and no other form is looked
+    /// at.
     Adopt {
         from: Guid,
         at: u64,

@@ -20,7 +20,7 @@ mod reply;
 pub use entry::Entry;
 pub use event::Event;
 pub use folder::Folder;
-pub use laws::{answers_are_one, runs_are_one};
+pub use laws::{answers_are_one, files_have_forms, runs_are_one};
 pub use mark::{FileMark, Mark};
 pub use note::{LocalNote, Note};
 pub use refusal::Refusal;

@@ -89,8 +89,8 @@ impl Machine {
                 from: _,
                 at: _,
                 update,
-                form: _,
-            } => self.adopt(alloc, update),
+                form,
+            } => self.adopt(alloc, update, form),
             Event::Finish {
                 from: _,
                 at: _,

@@ -1,8 +1,10 @@
 // Replies as a history keeps them.
 ghost use Rattle.std.specs.Prelude.{◌≡◌, IfOk};
+ghost use Rattle.folder_core.specs.Notes.{file_mark_of};
 
 use crate::Refusal;
 use frs_base::Gvsn;
+use pinned_pages::FileAnswer;
 use std::alloc::{AllocError, Global};
 use version_vector::Vector;
 use win_order::Update;
@@ -42,6 +44,24 @@ pub enum Mark {
 }
 
 impl FileMark {
+    /// The mark of an answer, which takes no memory.
+    pub(crate) fn of(answer: &FileAnswer) -> Result<FileMark, AllocError>
+        ensures { IfOk result (λ mark. mark ≡ file_mark_of answer.now) }
+    {
+        Ok(match answer {
+            FileAnswer::Found {
+                at,
+                update,
+                body: _,
+            } => FileMark::Found {
+                at: *at,
+                update: update.copy()?,
+            },
+            FileAnswer::NotYet { usn } => FileMark::NotYet { usn: *usn },
+            FileAnswer::NoRecord => FileMark::NoRecord,
+        })
+    }
+
     /// The same mark, which takes no memory.
     pub fn copy(&self) -> Result<FileMark, AllocError>
         ensures { IfOk result (λ mark. mark ≡ self.now) }

@@ -1,5 +1,5 @@
 // Why an event changes nothing.
-use frs_base::{Gvsn, Kind, Uid};
+use frs_base::{Gvsn, Kind, Sum, Uid};
 use std::error::Error;
 use std::fmt;
 use vol_state::Refused;
@@ -23,6 +23,11 @@ pub enum Refusal {
     Beaten { held: Key },
     /// The member covers the version of an update that isn't its record.
     Doubled { gvsn: Gvsn },
+    /// The form of a present file is none of a local file, from this place on. Without a form it is
+    /// this at 0.
+    MarshalBad { at: u64 },
+    /// The form of a present file has another sum than its update says.
+    HashDiffers { want: Sum, got: Sum },
     /// An update of the round's pages, of this file, is neither held nor beaten.
     Unheld { uid: Uid },
     /// The vector would have this many intervals, more than 65,536.
@@ -42,6 +47,8 @@ impl fmt::Display for Refusal {
             },
             Refusal::Beaten { held: _ } => write!(f, "the record that is held stands"),
             Refusal::Doubled { gvsn } => write!(f, "version {} is covered", gvsn.version),
+            Refusal::MarshalBad { at } => write!(f, "no form of a file at byte {at}"),
+            Refusal::HashDiffers { want: _, got: _ } => write!(f, "the form has another sum"),
             Refusal::Unheld { uid } => write!(f, "the file {} isn't held", uid.version),
             Refusal::VectorFull { count } => write!(f, "a vector of {count} intervals"),
         }

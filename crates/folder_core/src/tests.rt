@@ -6,7 +6,8 @@ use super::*;
 use frs_base::{
     Bytes, Guid, Gvsn, List, MemberKind, Name, Phase, Sum, Uid, content_set, database_of,
 };
-use pinned_pages::FileAnswer;
+use marshal_form::{LOCAL, Meta, marshal};
+use pinned_pages::{Body, FileAnswer};
 use std::alloc::Global;
 use std::process::Abort;
 use std::test::Fail;
@@ -68,8 +69,34 @@ fn file_of(member: u64, version: u64) -> Uid {
     }
 }
 
-/// An update of this file, made by this version at this clock; the word says of what: a `file`, a
-/// `directory`, or a file of a `foreign` content set.
+/// The form of a file with the contents `hi`.
+fn hi_form(alloc: Global) -> Result<Vec<u8>, Fail> {
+    Ok(marshal(alloc, LOCAL, b"hi")?)
+}
+
+/// The form that comes with an update: one of `hi`, or none with `bare`; with other attributes with
+/// `hidden`, without its last byte with `short`, and of other contents with `other`.
+fn form_of(alloc: Global, word: &str) -> Result<Option<Bytes>, Fail> {
+    if word == "bare" {
+        return Ok(None);
+    }
+    if word == "hidden" {
+        let form = marshal(alloc, Meta { attributes: 0x22 }, b"hi")?;
+        return Ok(Some(Bytes::of(form)));
+    }
+    if word == "other" {
+        let form = marshal(alloc, LOCAL, b"ho")?;
+        return Ok(Some(Bytes::of(form)));
+    }
+    let mut form = hi_form(alloc)?;
+    if word == "short" {
+        form.pop();
+    }
+    Ok(Some(Bytes::of(form)))
+}
+
+/// An update of this file, made by this version at this clock; the word says of what: a `directory`, a
+/// file of a `foreign` content set, or else a file. A file has the contents `hi`.
 fn update_of(alloc: Global, word: &str, gvsn: Gvsn, uid: Uid, clock: u64) -> Result<Update, Fail> {
     Ok(Update {
         present: true,
@@ -83,7 +110,11 @@ fn update_of(alloc: Global, word: &str, gvsn: Gvsn, uid: Uid, clock: u64) -> Res
         } else {
             content_set()
         },
-        hash: Sum([0; 20]),
+        hash: if word == "directory" {
+            Sum([0; 20])
+        } else {
+            HI_SUM
+        },
         similarity: [0; 16],
         uid,
         gvsn,
@@ -177,7 +208,7 @@ fn numbered(alloc: Global, word: &str, numbers: &[u64]) -> Result<Event, Fail>
                 seen.push(update)?;
                 return Ok(finish(Vector::empty(), seen));
             }
-            Ok(adopt(update, None))
+            Ok(adopt(update, form_of(alloc, word)?))
         }
         _ => Err("no event")?,
     }
@@ -199,9 +230,10 @@ fn event_of(alloc: Global, line: &str) -> Result<Event, Fail>
 
 fn answer_text(alloc: Global, answer: &FileAnswer) -> Result<String, Fail> {
     Ok(match answer {
-        FileAnswer::Found { at, update } => {
+        FileAnswer::Found { at, update, body } => {
             let version = update.gvsn.version;
-            format!(in alloc; "found {version} at {at}")?
+            let length = body.as_ref().map(Body::length).unwrap_or(0);
+            format!(in alloc; "found {version} at {at} with {length}")?
         }
         FileAnswer::NotYet { usn } => format!(in alloc; "not yet {usn}")?,
         FileAnswer::NoRecord => String::from_str(alloc, "no record")?,
@@ -241,16 +273,42 @@ fn state_text(alloc: Global, folder: &Folder) -> Result<String, Fail> {
     Ok(format!(in alloc; "{next} {consumed} {parts} {records} {generation}")?)
 }
 
+/// How many events came.
+fn entries(folder: &Folder) -> usize {
+    folder.history().len()
+}
+
+/// What is answered to an event of the caller 7.
+fn answered(alloc: Global, folder: &mut Folder, event: Event) -> Result<String, Fail>
+    requires { IsEarlyEvent event }
+{
+    let reply = folder.event(alloc, 7, event)?;
+    text_of(alloc, &reply)
+}
+
+/// What is answered to the event of a line.
+fn said(alloc: Global, folder: &mut Folder, line: &str) -> Result<String, Fail> {
+    let event = event_of(alloc, line)?;
+    answered(alloc, folder, event)
+}
+
+/// The row of a line: what is answered, and what the folder is then.
+fn row_of(alloc: Global, folder: &mut Folder, line: &str) -> Result<String, Fail> {
+    let said = said(alloc, folder, line)?;
+    let state = state_text(alloc, folder)?;
+    Ok(format!(in alloc; "{line} -> {said} | {state}")?)
+}
+
 /// Each row is an event, its reply, and what the folder is then.
 fn try_rows(rt: &impl Abort, alloc: Global, folder: &mut Folder, rows: &str) -> Result<(), Fail> {
     for row in rows.lines() {
-        let (line, wanted) = row.split_once(" -> ").ok_or("no arrow")?;
-        let (said, state) = wanted.split_once(" | ").ok_or("no state")?;
-        let length = folder.history().len();
-        let reply = folder.event(alloc, 7, event_of(alloc, line)?)?;
-        assert_eq!(rt; text_of(alloc, &reply)?.as_str(), said, "{line}");
-        assert_eq!(rt; state_text(alloc, folder)?.as_str(), state, "{line}");
-        assert!(rt; length < folder.history().len(), "{line}");
+        let line = match row.split_once(" -> ") {
+            None => row,
+            Some((line, _)) => line,
+        };
+        let length = entries(folder);
+        assert_eq!(rt; row_of(alloc, folder, line)?.as_str(), row);
+        assert!(rt; length < entries(folder), "{line}");
     }
     Ok(())
 }
@@ -259,14 +317,33 @@ fn primary() -> Folder {
     Folder::new(MemberKind::Primary, database_of(1), content_set())
 }
 
-/// A directory made, moved and removed: the move's record is passed, since a later one is there.
-#[test]
-fn moved_and_removed(rt: HostRuntime) -> Result<(), Fail> {
-    let mut folder = primary();
+// What owns a folder lends it to one function: each early return past an owned folder makes a proof
+// much longer.
+
+/// Tries the rows in a folder of their own.
+fn try_alone(rt: &impl Abort, alloc: Global, rows: &str) -> Result<(), Fail> {
+    try_rows(rt, alloc, &mut primary(), rows)
+}
+
+/// The one record is of this directory, which is gone.
+fn is_gone(folder: &Folder, uid: &Uid) -> bool {
+    let [record] = folder.book().records() else {
+        return false;
+    };
+    !record.present
+        && record.uid == *uid
+        && record.is_directory()
+        && record.fence == 2
+        && record.clock == 12
+        && record.created == 10
+}
+
+/// Makes a directory, moves it and removes it.
+fn try_moved(rt: &impl Abort, alloc: Global, folder: &mut Folder) -> Result<(), Fail> {
     try_rows(
-        &rt,
-        rt.alloc(),
-        &mut folder,
+        rt,
+        alloc,
+        folder,
         "mkdir d -> usn 9 | 10 9 0 0 0
 consume 10 -> made 9 | 10 10 1 1 2
 move d e -> usn 10 | 11 10 1 1 2
@@ -275,20 +352,22 @@ consume 11 -> skipped 10 | 12 11 1 1 5
 consume 12 -> made 11 | 12 12 1 1 6
 consume 13 -> nothing | 12 12 1 1 6",
     )?;
-    let [record] = folder.book().records() else {
-        return Err("one record")?;
-    };
-    assert!(rt; !record.present && record.uid == file_of(1, 9) && record.is_directory());
-    assert!(rt; record.fence == 2 && record.clock == 12 && record.created == 10);
+    assert!(rt; is_gone(folder, &file_of(1, 9)));
     Ok(())
+}
+
+/// The move's record is passed, since a later one is there.
+#[test]
+fn moved_and_removed(rt: HostRuntime) -> Result<(), Fail> {
+    let mut folder = primary();
+    try_moved(&rt, rt.alloc(), &mut folder)
 }
 
 #[test]
 fn local_refusals(rt: HostRuntime) -> Result<(), Fail> {
-    try_rows(
+    try_alone(
         &rt,
         rt.alloc(),
-        &mut primary(),
         "remove f -> no such path | 9 9 0 0 0
 put f 1 -> usn 9 | 10 9 0 0 0
 mkdir F -> the name is taken | 10 9 0 0 0
@@ -299,10 +378,9 @@ move f f -> usn 10 | 11 9 0 0 0",
 /// A partner set the clock of an own file as far as it may: the next change is refused.
 #[test]
 fn skewed(rt: HostRuntime) -> Result<(), Fail> {
-    try_rows(
+    try_alone(
         &rt,
         rt.alloc(),
-        &mut primary(),
         "put x 1 -> usn 9 | 10 9 0 0 0
 consume 10 -> made 9 | 10 10 1 1 2
 file 2 12 1 9 4611686018427387903 -> adopted | 10 10 2 1 3
@@ -311,28 +389,45 @@ consume 20 -> the clock 4611686018427387904 is too far ahead | 11 10 2 1 3",
     )
 }
 
-#[test]
-fn what_is_asked_for(rt: HostRuntime) -> Result<(), Fail> {
-    let alloc = rt.alloc();
-    let mut folder = primary();
+/// A copy of each entry has the caller 7.
+fn are_of_caller(alloc: Global, folder: &Folder) -> Result<bool, Fail> {
+    for entry in folder.history() {
+        if entry.copy(alloc)?.caller != 7 {
+            return Ok(false);
+        }
+    }
+    Ok(true)
+}
+
+/// How far the member has come.
+fn phase(folder: &Folder) -> Phase {
+    folder.book().phase()
+}
+
+/// Asks for files while changes wait, and for what is covered.
+fn try_asked(rt: &impl Abort, alloc: Global, folder: &mut Folder) -> Result<(), Fail> {
     try_rows(
-        &rt,
+        rt,
         alloc,
-        &mut folder,
+        folder,
         "put x 1 -> usn 9 | 10 9 0 0 0
 get 1 9 -> no record | 10 9 0 0 0
 consume 10 -> made 9 | 10 10 1 1 3
-get 1 9 -> found 9 at 4 | 10 10 1 1 3
+get 1 9 -> found 9 at 4 with 45 | 10 10 1 1 3
 put x 2 -> usn 10 | 11 10 1 1 3
 put x 3 -> usn 11 | 12 10 1 1 3
 get 1 9 -> not yet 11 | 12 10 1 1 3
 vector -> sent 1 of 1 at 8 | 12 10 1 1 3",
     )?;
-    for entry in folder.history() {
-        assert!(rt; entry.copy(alloc)?.caller == 7);
-    }
-    assert!(rt; folder.history().len() == 8 && folder.book().phase() == Phase::Initial);
+    assert!(rt; are_of_caller(alloc, folder)?);
+    assert!(rt; entries(folder) == 8 && phase(folder) == Phase::Initial);
     Ok(())
+}
+
+#[test]
+fn what_is_asked_for(rt: HostRuntime) -> Result<(), Fail> {
+    let mut folder = primary();
+    try_asked(&rt, rt.alloc(), &mut folder)
 }
 
 /// What `sha1sum` says of the form of a file with the contents `hi`.
@@ -341,46 +436,94 @@ const HI_SUM: Sum = Sum([
     0x04, 0xc7, 0x1c, 0xb0,
 ]);
 
+/// What comes with a present file is staged, where it is the form of a local file and has its hash;
+/// the form of an own change is that of its object.
+#[test]
+fn forms_are_checked_and_given(rt: HostRuntime) -> Result<(), Fail> {
+    try_alone(
+        &rt,
+        rt.alloc(),
+        "bare 2 9 2 9 10 -> no form of a file at byte 0 | 9 9 0 0 0
+hidden 2 9 2 9 10 -> no form of a file at byte 24 | 9 9 0 0 0
+short 2 9 2 9 10 -> no form of a file at byte 44 | 9 9 0 0 0
+other 2 9 2 9 10 -> the form has another sum | 9 9 0 0 0
+file 2 9 2 9 10 -> adopted | 9 9 1 1 5
+get 2 9 -> found 9 at 6 with 46 | 9 9 1 1 5
+directory 2 10 2 10 10 -> adopted | 9 9 1 2 7
+get 2 10 -> found 10 at 8 with 0 | 9 9 1 2 7
+put f a -> usn 9 | 10 9 1 2 7
+consume 10 -> made 9 | 10 10 2 3 10
+get 1 9 -> found 9 at 11 with 45 | 10 10 2 3 10",
+    )
+}
+
 /// What `sha1sum` says of the bytes `form`.
 const FORM_SUM: Sum = Sum([
     0xd0, 0x0b, 0x39, 0x81, 0x5c, 0x18, 0x7d, 0x83, 0x2c, 0xef, 0x32, 0x39, 0xeb, 0x7a, 0x77, 0x58,
     0x07, 0x28, 0xdc, 0x47,
 ]);
 
+/// The sum in the note of the first of two entries, a put.
+fn put_sum(folder: &Folder) -> Option<Sum> {
+    let [put, _] = folder.history() else {
+        return None;
+    };
+    match &put.note {
+        Note::Local(LocalNote::Put { path: _, sum }) => Some(*sum),
+        _ => None,
+    }
+}
+
+/// The sum of the form in the note of the second of two entries, an adoption.
+fn form_sum(folder: &Folder) -> Option<Sum> {
+    let [_, adopted] = folder.history() else {
+        return None;
+    };
+    match &adopted.note {
+        Note::Adopt { form, .. } => *form,
+        _ => None,
+    }
+}
+
+/// The sum of the one object.
+fn object_sum(folder: &Folder) -> Option<Sum> {
+    match folder.volume().objects() {
+        [object] => Some(object.sum),
+        _ => None,
+    }
+}
+
+/// Adopts an update that comes with the form `form`.
+fn adopt_form(alloc: Global, folder: &mut Folder) -> Result<String, Fail> {
+    let update = update_of(alloc, "file", version_of(2, 9), file_of(2, 9), 10)?;
+    let form = Bytes::of(Vec::from_slice(alloc, b"form")?);
+    answered(alloc, folder, adopt(update, Some(form)))
+}
+
+/// Puts the contents `hi` and adopts an update with the form `form`.
+fn try_sums(rt: &impl Abort, alloc: Global, folder: &mut Folder) -> Result<(), Fail> {
+    try_rows(rt, alloc, folder, "put f hi -> usn 9 | 10 9 0 0 0")?;
+    let said = adopt_form(alloc, folder)?;
+    assert_eq!(rt; said.as_str(), "no form of a file at byte 0");
+    assert!(rt; put_sum(folder) == Some(HI_SUM));
+    assert!(rt; object_sum(folder) == Some(HI_SUM));
+    assert!(rt; form_sum(folder) == Some(FORM_SUM));
+    Ok(())
+}
+
 /// The contents of a put have the sum that they give its file, and a form has its own.
 #[test]
 fn notes_keep_sums(rt: HostRuntime) -> Result<(), Fail> {
-    let alloc = rt.alloc();
     let mut folder = primary();
-    try_rows(&rt, alloc, &mut folder, "put f hi -> usn 9 | 10 9 0 0 0")?;
-    let update = update_of(alloc, "file", version_of(2, 9), file_of(2, 9), 10)?;
-    let form = Bytes::of(Vec::from_slice(alloc, b"form")?);
-    folder.event(alloc, 7, adopt(update, Some(form)))?;
-    let [put, adopted] = folder.history() else {
-        return Err("two entries")?;
-    };
-    let Note::Local(LocalNote::Put { sum, .. }) = &put.note else {
-        return Err("a put")?;
-    };
-    assert_eq!(rt; *sum, HI_SUM);
-    let [object] = folder.volume().objects() else {
-        return Err("one object")?;
-    };
-    assert_eq!(rt; object.sum, HI_SUM);
-    let Note::Adopt { form, .. } = &adopted.note else {
-        return Err("an adoption")?;
-    };
-    assert_eq!(rt; *form, Some(FORM_SUM));
-    Ok(())
+    try_sums(&rt, rt.alloc(), &mut folder)
 }
 
 /// Each refusal of an update, by the record that is held and without one.
 #[test]
 fn adopt_refusals(rt: HostRuntime) -> Result<(), Fail> {
-    try_rows(
+    try_alone(
         &rt,
         rt.alloc(),
-        &mut primary(),
         "put f 1 -> usn 9 | 10 9 0 0 0
 foreign 2 9 2 9 10 -> of another content set | 10 9 0 0 0
 file 1 9 2 9 10 -> the own version 9 isn't made yet | 10 9 0 0 0
@@ -398,10 +541,9 @@ file 2 10 2 8 12 -> version 10 is covered | 10 10 2 2 10",
 /// An update of the other kind than the member's object, of which no record is held.
 #[test]
 fn kind_of_an_object(rt: HostRuntime) -> Result<(), Fail> {
-    try_rows(
+    try_alone(
         &rt,
         rt.alloc(),
-        &mut primary(),
         "mkdir d -> usn 9 | 10 9 0 0 0
 move d g -> usn 10 | 11 9 0 0 0
 consume 10 -> skipped 9 | 11 10 1 0 3
@@ -410,13 +552,12 @@ directory 2 9 1 9 10 -> adopted | 11 10 2 1 5",
     )
 }
 
-#[test]
-fn finish_and_its_refusals(rt: HostRuntime) -> Result<(), Fail> {
-    let mut folder = primary();
+/// Finishes rounds, and is refused some.
+fn try_finish(rt: &impl Abort, alloc: Global, folder: &mut Folder) -> Result<(), Fail> {
     try_rows(
-        &rt,
-        rt.alloc(),
-        &mut folder,
+        rt,
+        alloc,
+        folder,
         "put f 1 -> usn 9 | 10 9 0 0 0
 consume 10 -> made 9 | 10 10 1 1 2
 finish 1 3 40 -> the own version 10 isn't made yet | 10 10 1 1 2
@@ -426,17 +567,22 @@ seen 1 9 1 9 1 -> the file 9 isn't held | 10 10 1 1 2
 finish 2 9 12 -> finished | 10 10 2 1 7
 finish 2 9 11 -> finished | 10 10 2 1 7",
     )?;
-    assert!(rt; folder.book().phase() == Phase::Normal);
+    assert!(rt; phase(folder) == Phase::Normal);
     Ok(())
+}
+
+#[test]
+fn finish_and_its_refusals(rt: HostRuntime) -> Result<(), Fail> {
+    let mut folder = primary();
+    try_finish(&rt, rt.alloc(), &mut folder)
 }
 
 /// A vector of 65,536 intervals is taken, and nothing that would make it longer.
 #[test]
 fn vector_full(rt: HostRuntime) -> Result<(), Fail> {
-    try_rows(
+    try_alone(
         &rt,
         rt.alloc(),
-        &mut primary(),
         "wide 65537 -> a vector of 65537 intervals | 9 9 0 0 0
 wide 65536 -> finished | 9 9 65536 0 2
 file 3 9 2 9 10 -> a vector of 65537 intervals | 9 9 65536 0 2

@@ -1,5 +1,5 @@
 // Values in order, with room reserved for more.
-ghost use Rattle.std.specs.Prelude.{◌≡◌, ◌<◌, ◌≤◌, ◌+◌, ◌∷◌, ◌++◌, [], OnErr, OnOk, Some, insert, length, slice_get, slice_set};
+ghost use Rattle.std.specs.Prelude.{◌≡◌, ◌<◌, ◌≤◌, ◌+◌, ◌∷◌, ◌++◌, [], OnErr, OnOk, Some, insert, length, remove, slice_get, slice_index_or, slice_set};
 ghost use Rattle.std.specs.Fn.{FnOnceReturnsAtMut};
 
 use std::alloc::{AllocError, Global};
@@ -64,6 +64,19 @@ impl<T> ReservedVec<T> {
         match &mut self.kept {
             None => unreachable!(),
             Some(kept) => by(&mut kept[at]),
+        }
+    }
+
+    /// Takes the value at this place out; those behind it move up.
+    pub fn remove(&mut self, at: usize) -> T
+        requires { at < length self.old.items }
+        ensures value { result ≡ slice_index_or self.old.items at result }
+        ensures items { self.new.items ≡ remove self.old.items at }
+        ensures room { self.new.room ≡ self.old.room + 1 }
+    {
+        match &mut self.kept {
+            None => unreachable!(),
+            Some(kept) => kept.remove(at),
         }
     }
 }

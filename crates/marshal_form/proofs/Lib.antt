@@ -1,3 +1,4 @@
 pub mod Places
 pub mod Deciding
 pub mod Spelled
+pub mod Locals

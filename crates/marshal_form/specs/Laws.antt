@@ -3,6 +3,7 @@ use Rattle.std.specs.Prelude.{◌≡◌, ◌⊎◌, ◌<◌, ◌^◌, ℕ, List,
 use Rattle.marshal_form.specs.declared.meta.Meta.{Meta}
 use Rattle.marshal_form.specs.Spelling.{IsFile, spelling}
 use Rattle.marshal_form.specs.Fields.{IsFirstBad, IsForm}
+use Rattle.marshal_form.specs.Local.{IsFirstBadLocal, IsLocalForm}
 
 -- the spelling of a file is a form of it
 abbrev pub SpellingsAreForms : Type 0
@@ -27,3 +28,11 @@ BadPlacesAreOne = (form : List ℕ) (at other : ℕ) → IsFirstBad form at → 
 -- bytes are a form of some file, or have a first bad place
 abbrev pub EveryOtherHasABadPlace : Type 0
 EveryOtherHasABadPlace = (form : List ℕ) → ((meta : Meta) × (contents : List ℕ) × IsForm form meta contents) ⊎ ((at : ℕ) × IsFirstBad form at)
+
+-- no bytes are the form of a local file and have a place at which they aren't
+abbrev pub LocalFormsHaveNoBadPlace : Type 0
+LocalFormsHaveNoBadPlace = (form contents : List ℕ) (at : ℕ) → IsLocalForm form contents → IsFirstBadLocal form at → ⊥
+
+-- one place is the first at which bytes are no form of a local file
+abbrev pub LocalBadPlacesAreOne : Type 0
+LocalBadPlacesAreOne = (form : List ℕ) (at other : ℕ) → IsFirstBadLocal form at → IsFirstBadLocal form other → at ≡ other

@@ -1,4 +1,5 @@
 pub mod Spelling
 pub mod Fields
+pub mod Local
 pub mod Refusals
 pub mod Laws

@@ -1,5 +1,5 @@
 // What holds of every form, each law the contract of a function that does nothing.
-ghost use Rattle.marshal_form.specs.Laws.{BadPlacesAreOne, EveryOtherHasABadPlace, FormsAreSpellings, FormsHaveNoBadPlace, FormsHaveOneValue, SpellingsAreForms};
+ghost use Rattle.marshal_form.specs.Laws.{BadPlacesAreOne, EveryOtherHasABadPlace, FormsAreSpellings, FormsHaveNoBadPlace, FormsHaveOneValue, LocalBadPlacesAreOne, LocalFormsHaveNoBadPlace, SpellingsAreForms};
 
 /// What [`marshal`] gives is a form of that file.
 ///
@@ -31,4 +31,14 @@ pub fn bad_places_are_one()
 /// Bytes that are no form have a first bad place.
 pub fn every_other_has_a_bad_place()
     ensures { EveryOtherHasABadPlace }
+{}
+
+/// The form of a local file has no place at which it isn't one.
+pub fn local_forms_have_no_bad_place()
+    ensures { LocalFormsHaveNoBadPlace }
+{}
+
+/// Two first places at which bytes are no form of a local file are one.
+pub fn local_bad_places_are_one()
+    ensures { LocalBadPlacesAreOne }
 {}

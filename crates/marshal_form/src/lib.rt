@@ -3,6 +3,7 @@
 //!
 //! Read [`Meta`] first. [`marshal`] writes the one form of a file, and [`unmarshal`] reads it, or
 //! names the first place that is in no form. The fields are listed in `specs/Fields.antt`.
+//! [`unmarshal_local`] takes the forms of local files alone.
 //!
 //! [`head`] and [`sum`] are for what is kept of a form: its first bytes, and the hash of it all.
 //! [`local_sum`] is that hash for the contents of a local file, whose form needn't be made.
@@ -19,12 +20,13 @@ mod unmarshalling;
 pub use errors::MarshalBad;
 pub use laws::{
     bad_places_are_one, every_other_has_a_bad_place, forms_are_spellings, forms_have_no_bad_place,
-    forms_have_one_value, spellings_are_forms,
+    forms_have_one_value, local_bad_places_are_one, local_forms_have_no_bad_place,
+    spellings_are_forms,
 };
 pub use marshalling::{head, marshal};
-pub use meta::Meta;
+pub use meta::{LOCAL, Meta};
 pub use summing::{local_sum, sum};
-pub use unmarshalling::unmarshal;
+pub use unmarshalling::{unmarshal, unmarshal_local};
 
 #[cfg(test)]
 mod tests;

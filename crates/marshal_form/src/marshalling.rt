@@ -2,18 +2,13 @@
 ghost use Rattle.std.specs.Prelude.{◌+◌, ◌++◌, ◌≡◌, ◌≤◌, IfOk, drop, length, take};
 ghost use Rattle.marshal_form.specs.Spelling.{IsFile, head_of, spelling};
 
-use crate::Meta;
 use crate::layout::{
-    ARCHIVE, ATTRIBUTES_AT, CONTENTS_FLAGS_AT, CONTENTS_LENGTH_AT, CONTENTS_TYPE, CONTENTS_TYPE_AT,
-    FLAGS, FORM, FORM_AT, HEAD, MAGIC, MAGIC_AT, META_FLAGS_AT, META_LENGTH, META_LENGTH_AT,
-    META_TYPE, META_TYPE_AT,
+    ATTRIBUTES_AT, CONTENTS_FLAGS_AT, CONTENTS_LENGTH_AT, CONTENTS_TYPE, CONTENTS_TYPE_AT, FLAGS,
+    FORM, FORM_AT, HEAD, MAGIC, MAGIC_AT, META_FLAGS_AT, META_LENGTH, META_LENGTH_AT, META_TYPE,
+    META_TYPE_AT,
 };
+use crate::{LOCAL, Meta};
 use std::alloc::{AllocError, Global};
-
-/// What is kept of a local file.
-const LOCAL: Meta = Meta {
-    attributes: ARCHIVE,
-};
 
 /// Writes the bytes of a field at its place.
 fn put(head: &mut [u8; HEAD], at: usize, bytes: &[u8])

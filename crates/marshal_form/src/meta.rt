@@ -1,7 +1,7 @@
 // What is kept of a file beside its contents.
 ghost use Rattle.std.specs.Prelude.{◌↔◌, IsTrue};
 
-use crate::layout::DIRECTORY;
+use crate::layout::{ARCHIVE, DIRECTORY};
 
 /// What is kept of a file beside its contents.
 #[derive(Clone, Copy, Debug, PartialEq, Eq)]
@@ -9,6 +9,11 @@ pub struct Meta {
     /// The file's attribute bits, of which 0x10 is a directory's.
     pub attributes: u32,
 }
+
+/// What is kept of a local file.
+pub const LOCAL: Meta = Meta {
+    attributes: ARCHIVE,
+};
 
 impl Meta {
     ghost use Rattle.marshal_form.specs.Spelling.{IsFile};

@@ -17,8 +17,6 @@ const EMPTY: [u8; 44] = [
     0x00, 0x00, 0x00, 0x00, 0x00, 0x00, 0x00, 0x00, 0x00, 0x00, 0x00, 0x00,
 ];
 
-const LOCAL: Meta = Meta { attributes: 0x20 };
-
 fn expect_bad(rt: &impl Abort, form: &[u8], at: usize) {
     assert_eq!(rt; unmarshal(form), Err(MarshalBad { at }), "{form:?}");
 }
@@ -179,4 +177,17 @@ fn refusals_tell_the_place(rt: HostRuntime) -> Result<(), Fail> {
     let text = MarshalBad { at: 44 }.to_string(rt.alloc())?;
     assert_eq!(rt; text.as_str(), "no marshalled form at byte 44");
     Ok(())
+}
+
+/// A form with other attributes is none of a local file, from the place of the attributes on; what is
+/// no form at all is refused where it first isn't.
+#[test]
+fn forms_of_local_files_have_their_attributes(rt: HostRuntime) {
+    assert_eq!(rt; unmarshal_local(&HI), Ok(44));
+    let mut other = HI;
+    other[24] = 0x22;
+    assert_eq!(rt; unmarshal(&other), Ok((Meta { attributes: 0x22 }, 44)));
+    assert_eq!(rt; unmarshal_local(&other), Err(MarshalBad { at: 24 }));
+    other[32] = 0x01;
+    assert_eq!(rt; unmarshal_local(&other), Err(MarshalBad { at: 32 }));
 }

@@ -2,6 +2,7 @@
 ghost use Rattle.std.specs.Prelude.{◌+◌, ◌<◌, ◌≡◌, ◌≤◌, IfErr, IfOk, OnOk, drop, length, slice_range};
 ghost use Rattle.std.specs.List.{AllByRecursion};
 ghost use Rattle.marshal_form.specs.Fields.{IsFirstBad, IsFirstWrong, IsForm, IsRight, attributes_field, attributes_in, fixed_field, free_field, head_fields, length_in};
+ghost use Rattle.marshal_form.specs.Local.{IsFirstBadLocal, IsLocalForm};
 ghost use Rattle.marshal_form.specs.Refusals.{Checks};
 ghost use Rattle.marshal_form.specs.Spelling.{IsFile, spelling};
 
@@ -10,7 +11,7 @@ use crate::layout::{
     FORM, FORM_AT, HEAD, MAGIC, MAGIC_AT, META_FLAGS_AT, META_LENGTH, META_LENGTH_AT, META_TYPE,
     META_TYPE_AT,
 };
-use crate::{MarshalBad, Meta};
+use crate::{LOCAL, MarshalBad, Meta};
 use std::cmp::Ordering;
 
 /// The bytes of the field at a place, unless it is missing or cut off.
@@ -100,4 +101,18 @@ pub fn unmarshal(form: &[u8]) -> Result<(Meta, usize), MarshalBad>
         }),
         Ordering::Equal => Ok((meta, HEAD)),
     }
+}
+
+/// The place of the contents in the form of a local file; or the first place at which bytes are no
+/// such form, which is the one of the attributes in the form of another file.
+pub fn unmarshal_local(form: &[u8]) -> Result<usize, MarshalBad>
+    ensures place { IfOk result (λ at. at ≡ 44) }
+    ensures form { OnOk result (IsLocalForm form.now (drop 44 form.now)) }
+    ensures refused { IfErr result (λ bad. IsFirstBadLocal form.now bad.at) }
+{
+    let (meta, at) = unmarshal(form)?;
+    if meta != LOCAL {
+        return Err(MarshalBad { at: ATTRIBUTES_AT });
+    }
+    Ok(at)
 }

@@ -1,6 +1,7 @@
-// What no contract says: that a book is pinned and that what it then does leaves the pinned state.
+// What no contract says: that a book is pinned and that what it then does leaves the pinned state;
+// and a body read by hand.
 use super::*;
-use frs_base::{Gvsn, MemberKind, Name, Sum, Uid, content_set, database_of};
+use frs_base::{Bytes, Gvsn, MemberKind, Name, Sum, Uid, content_set, database_of};
 use record_db::Book;
 use std::alloc::Global;
 use std::test::Fail;
@@ -45,11 +46,11 @@ fn a_pinned_state_stays(rt: HostRuntime) -> Result<(), Fail> {
     let alloc = rt.alloc();
     let mut book = Book::new(MemberKind::Plain, database_of(1), content_set());
     for (born, version) in [(12, 9), (9, 10), (15, 11)] {
-        book.adopt(alloc, update(alloc, born, version)?)?;
+        book.adopt(alloc, update(alloc, born, version)?, None)?;
     }
     let pinned = Pinned::of(alloc, &book, 3)?;
     for (born, version) in [(9, 12), (10, 13)] {
-        book.adopt(alloc, update(alloc, born, version)?)?;
+        book.adopt(alloc, update(alloc, born, version)?, None)?;
     }
     assert_eq!(rt; pinned.at, 3);
     let covered = [Interval {
@@ -66,5 +67,26 @@ fn a_pinned_state_stays(rt: HostRuntime) -> Result<(), Fail> {
     for born in [8, 10, 13, 16] {
         assert!(rt; pinned.find(file(born)).is_none(), "{born}");
     }
+    Ok(())
+}
+
+/// Reads of a body of ten bytes: from where, into how many, and what is then there.
+#[test]
+fn a_body_is_read_piece_by_piece(rt: HostRuntime) -> Result<(), Fail> {
+    let bytes = Vec::from_slice(rt.alloc(), b"0123456789")?;
+    let body = Body::of(Bytes::of(bytes));
+    assert_eq!(rt; body.length(), 10);
+    for (at, count, wanted) in [
+        (0, 4, b"0123"),
+        (4, 4, b"4567"),
+        (8, 2, b"89--"),
+        (10, 0, b"----"),
+        (u64::MAX, 0, b"----"),
+    ] {
+        let mut buf = *b"----";
+        assert_eq!(rt; body.read_at(at, &mut buf), count, "{at}");
+        assert_eq!(rt; &buf, wanted, "{at}");
+    }
+    assert_eq!(rt; body.into_form().as_slice(), b"0123456789".as_slice());
     Ok(())
 }

@@ -1,22 +1,25 @@
 -- Books that stand for what was recorded and is covered go on to.
-use Rattle.std.proofs.Common.{◌≡◌, ◌⊎◌, ◌++◌, ◌&&◌, ◌||◌, ℕ, Bool, true, false, List, [], ◌∷◌, refl, sym, ap, ◌∙◌, subst, inl, inr, Option, Some, None, MatchOption}
+use Rattle.std.proofs.Common.{◌≡◌, ◌⊎◌, ◌++◌, ◌&&◌, ◌||◌, ℕ, Bool, true, false, cond, List, [], ◌∷◌, refl, sym, ap, ◌∙◌, subst, inl, inr, Option, Some, None, MatchOption}
 use Rattle.frs_base.specs.Options.{In}
-use Rattle.frs_base.specs.Versions.{same_gvsn}
+use Rattle.frs_base.specs.Versions.{same_gvsn, same_uid}
+use Rattle.frs_base.specs.declared.version.Uid.{Uid}
 use Rattle.frs_base.specs.declared.version.Gvsn.{Gvsn}
 use Rattle.version_vector.specs.Versions.{covers}
 use Rattle.version_vector.specs.declared.interval.Interval.{Interval}
 use Rattle.version_vector.proofs.Uniqueness.{unique}
 use Rattle.win_order.specs.Order.{key_lt, key_of}
 use Rattle.win_order.specs.declared.update.Update.{Update}
-use Rattle.record_db.specs.declared.command.BookCmd.TheVariants.{RecordLocal, Adopt, Finish}
+use Rattle.record_db.specs.declared.command.BookCmd.TheVariants.{RecordLocal, Adopt, Finish, Unstage}
 use Rattle.record_db.specs.Lists.{Lists, put_record}
 use Rattle.record_db.specs.Records.{Covered, IsBetter, IsHeldOrBeaten, IsRecord, Versions, both, plus}
-use Rattle.record_db.specs.State.{BookState, IsVector}
-use Rattle.record_db.specs.Standing.{AdoptsOn, AreAlike, AreOneEach, BeginsStanding, FindsRecords, FinishesOn, IsUnused, RecordsOn, StaysStanding}
+use Rattle.record_db.specs.Staged.{staged_with, with_uid}
+use Rattle.record_db.specs.State.{BookState, IsVector, form_of}
+use Rattle.record_db.specs.Standing.{AdoptsOn, AreAlike, AreOneEach, BeginsStanding, FindsRecords, FinishesOn, IsUnused, RecordsOn, StaysStanding, UnstagesOn}
 use Rattle.record_db.specs.Steps.{Changes, has_next, in_set, is_allowed, own_version}
 use Rattle.record_db.proofs.Keys.{key_cut, same_gvsn_refl}
 use Rattle.record_db.proofs.Sets.{both_cases, both_old, in_after, in_append, in_before, plus_cases, plus_new, plus_old}
 use Rattle.record_db.proofs.Best.{Grown, beats_all, best_fewer, best_more, best_same, covered_held}
+use Rattle.record_db.proofs.Forms.{form_in, found_with}
 use Rattle.record_db.proofs.Lists.{found_held, lists_one, lists_same, put_lists}
 
 -- ---- sets that grow
@@ -77,6 +80,18 @@ vector_plus known old new g was is = record { canonical = is.canonical; covering
 vector_both : (known other : Versions) (old sent new : List Interval) → IsVector known old → ((g : Gvsn) → covers sent g ≡ other g) → IsVector (both (covers old) (covers sent)) new → IsVector (both known other) new
 vector_both known other old sent new was theirs is = record { canonical = is.canonical; covering = λ h. is.covering h ∙ (λ i. theirs h i || was.covering h i) }
 
+-- ---- what is staged
+
+-- where the book has what it had
+staged_same : (old new : BookState) (forms : Uid → Option (List ℕ)) → new.staged ≡ old.staged → ((uid : Uid) → form_of old uid ≡ forms uid) → (uid : Uid) → form_of new uid ≡ forms uid
+staged_same old new forms is was uid = ap (λ staged. form_in staged uid) is ∙ was uid
+
+-- where it has this of one file
+staged_new : (old new : BookState) (forms : Uid → Option (List ℕ)) (at : Uid) (form : Option (List ℕ)) → new.staged ≡ staged_with at form old.staged → ((uid : Uid) → form_of old uid ≡ forms uid)
+    → (uid : Uid) → form_of new uid ≡ with_uid forms at form uid
+staged_new old new forms at form is was uid =
+    ap (λ staged. form_in staged uid) is ∙ found_with at form old.staged uid ∙ ap (λ other. cond (same_uid uid at) form other) (was uid)
+
 -- ---- the laws
 
 pub begins_standing : BeginsStanding
@@ -85,6 +100,7 @@ begins_standing kind own set all = record {
   vector = record { canonical = tt; covering = λ g. refl };
   consumed = refl;
   phase = refl;
+  staged = λ uid. refl;
 }
 
 -- an update of the book's set is put as it is
@@ -98,7 +114,7 @@ own_allowed old usn (Some u) next own =
     (λ i. next i && same i)
 
 pub records_on : RecordsOn
-records_on all known usn phase old new None s next unused fit step =
+records_on all known usn phase forms old new None s next unused fit step =
     let changed : Changes (RecordLocal usn None) old new = step.done (own_allowed old usn None next tt) in
     let g = own_version old usn in
     record {
@@ -107,6 +123,7 @@ records_on all known usn phase old new None s next unused fit step =
       vector = vector_plus known old.vector new.vector g s.vector changed.vector;
       consumed = changed.consumed;
       phase = changed.phase ∙ s.phase;
+      staged = staged_same old new forms changed.staged s.staged;
     }
   where
     to : (v : Update) → Covered all known v → Covered (all ++ []) (plus known (own_version old usn)) v
@@ -114,7 +131,7 @@ records_on all known usn phase old new None s next unused fit step =
 
     back : (v : Update) → Covered (all ++ []) (plus known (own_version old usn)) v → Covered all known v
     back = covered_same all known (own_version old usn) unused
-records_on all known usn phase old new (Some u) s next unused (own, fit) step =
+records_on all known usn phase forms old new (Some u) s next unused (own, fit) step =
     let changed : Changes (RecordLocal usn (Some u)) old new = step.done (own_allowed old usn (Some u) next own) in
     let g = own_version old usn in
     let grown : Grown (Covered all known) (Covered (all ++ u ∷ []) (plus known g)) u =
@@ -125,21 +142,23 @@ records_on all known usn phase old new (Some u) s next unused (own, fit) step =
       vector = vector_plus known old.vector new.vector g s.vector changed.vector;
       consumed = changed.consumed;
       phase = changed.phase ∙ s.phase;
+      staged = staged_new old new forms u.uid None changed.staged s.staged;
     }
 
 pub adopts_on : AdoptsOn
-adopts_on all known consumed phase old new u s one here next fit step =
-    let changed : Changes (Adopt u) old new = step.done next in
+adopts_on all known consumed phase forms old new u form s one here next fit step =
+    let changed : Changes (Adopt u form) old new = step.done next in
     record {
       records = subst (Lists (IsRecord all (plus known u.gvsn))) (put_as_it_is old.set u old.records fit.set ∙ sym changed.records)
           (put_lists (Covered all known) (Covered all (plus known u.gvsn)) u old.records (grown_known all known u one here fit.better) s.records);
       vector = vector_plus known old.vector new.vector u.gvsn s.vector changed.vector;
       consumed = changed.consumed ∙ s.consumed;
       phase = changed.phase ∙ s.phase;
+      staged = staged_new old new forms u.uid form changed.staged s.staged;
     }
 
 pub finishes_on : FinishesOn
-finishes_on all known other consumed phase old new sent s one theirs held step =
+finishes_on all known other consumed phase forms old new sent s one theirs held step =
     let changed : Changes (Finish sent) old new = step.done refl in
     record {
       records = subst (Lists (IsRecord all (both known other))) (sym changed.records)
@@ -148,17 +167,30 @@ finishes_on all known other consumed phase old new sent s one theirs held step =
       vector = vector_both known other old.vector sent new.vector s.vector theirs changed.vector;
       consumed = changed.consumed ∙ s.consumed;
       phase = changed.phase;
+      staged = staged_same old new forms changed.staged s.staged;
     }
   where
     wider : (v : Update) → Covered all known v → Covered all (both known other) v
     wider v c = (c.0, both_old known other v.gvsn c.1)
 
+pub unstages_on : UnstagesOn
+unstages_on all known consumed phase forms old new uid s step =
+    let changed : Changes (Unstage uid) old new = step.done refl in
+    record {
+      records = subst (Lists (IsRecord all known)) (sym changed.records) s.records;
+      vector = record { canonical = changed.vector.canonical; covering = λ g. changed.vector.covering g ∙ s.vector.covering g };
+      consumed = changed.consumed ∙ s.consumed;
+      phase = changed.phase ∙ s.phase;
+      staged = staged_new old new forms uid None changed.staged s.staged;
+    }
+
 pub stays_standing : StaysStanding
-stays_standing all more known consumed phase book s beside = record {
+stays_standing all more known consumed phase forms book s beside = record {
   records = lists_same (IsRecord all known) (IsRecord (all ++ more) known) book.records (λ u. best_same u to back) (λ u. best_same u back to) s.records;
   vector = s.vector;
   consumed = s.consumed;
   phase = s.phase;
+  staged = s.staged;
 }
   where
     to : (v : Update) → Covered all known v → Covered (all ++ more) known v
@@ -168,10 +200,10 @@ stays_standing all more known consumed phase book s beside = record {
     back v c = elim (in_append v all more c.0) [ inl old ↦ (old, c.1) | inr new ↦ (let f = beside v new in let t = c.1 in absurd (cc)) ]
 
 pub finds_records : FindsRecords
-finds_records all known consumed phase book uid s = found_held all known book.records uid s.records
+finds_records all known consumed phase forms book uid s = found_held all known book.records uid s.records
 
 pub are_alike : AreAlike
-are_alike all known consumed consumed' phase phase' a b s t = (
+are_alike all known consumed consumed' phase phase' forms forms' a b s t = (
   lists_one (IsRecord all known) a.records b.records s.records t.records,
   unique a.vector b.vector s.vector.canonical t.vector.canonical (λ g. s.vector.covering g ∙ sym (t.vector.covering g)),
 )

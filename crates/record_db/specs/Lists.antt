@@ -3,12 +3,17 @@ use Rattle.std.specs.Prelude.{◌≡◌, true, List, [], ◌∷◌, Option, Some
 use Rattle.std.specs.List.{AllByRecursion}
 use Rattle.frs_base.specs.Options.{In}
 use Rattle.frs_base.specs.Versions.{same_uid, uid_lt}
+use Rattle.frs_base.specs.declared.version.Uid.{Uid}
 use Rattle.win_order.specs.declared.update.Update.{Update}
+
+-- in order of their UIDs, each once
+abbrev pub IsRisingBy : {X : Type 0} → (X → Uid) → List X → Type 0
+IsRisingBy uid_of [] = Unit {0}
+IsRisingBy uid_of (x ∷ xs) = AllByRecursion (λ y. uid_lt (uid_of x) (uid_of y) ≡ true) xs × IsRisingBy uid_of xs
 
 -- in order of their files, each file once
 abbrev pub IsRising : List Update → Type 0
-IsRising [] = Unit {0}
-IsRising (u ∷ us) = AllByRecursion (λ v. uid_lt u.uid v.uid ≡ true) us × IsRising us
+IsRising = IsRisingBy (λ u. u.uid)
 
 -- the list has just these updates, in order of their files
 pub record Lists (These : Update → Type 0) (list : List Update) : Type 0 where

@@ -1,17 +1,20 @@
 -- What a book keeps.
-use Rattle.std.specs.Prelude.{◌≡◌, ◌≤◌, ℕ, true, List, [], length}
+use Rattle.std.specs.Prelude.{◌≡◌, ◌≤◌, ℕ, true, List, [], Option, find, length, option_map}
 use Rattle.std.specs.List.{AllByRecursion}
+use Rattle.frs_base.specs.Versions.{same_uid}
 use Rattle.frs_base.specs.declared.kind.MemberKind.{MemberKind}
 use Rattle.frs_base.specs.declared.kind.Phase.{Phase}
 use Rattle.frs_base.specs.declared.kind.Phase.TheVariants.{Initial}
 use Rattle.frs_base.specs.declared.version.Gvsn.{Gvsn}
+use Rattle.frs_base.specs.declared.version.Uid.{Uid}
 use Rattle.version_vector.specs.Versions.{IsCanonical, covers}
 use Rattle.version_vector.specs.declared.interval.Interval.{Interval}
 use Rattle.win_order.specs.declared.update.Update.{Update}
-use Rattle.record_db.specs.Lists.{IsRising}
+use Rattle.record_db.specs.declared.staged.Staged.{Staged}
+use Rattle.record_db.specs.Lists.{IsRising, IsRisingBy}
 use Rattle.record_db.specs.Records.{Versions}
 
--- the member's kind, own database and content set, its records in order of their files, its vector, the USN that it consumes next, and how far it has come
+-- the member's kind, own database and content set, its records in order of their files, its vector, the USN that it consumes next, how far it has come, and the forms that are staged, in order of their files
 pub record BookState : Type 0 where
   pub kind : MemberKind
   pub own : ℕ
@@ -20,25 +23,32 @@ pub record BookState : Type 0 where
   pub vector : List Interval
   pub consumed : ℕ
   pub phase : Phase
+  pub staged : List Staged
 
--- its state, and how many more records need no memory
+-- its state, and how many more records, and how many more forms, need no memory
 pub record Seen : Type 0 where
   pub state : BookState
   pub room : ℕ
+  pub staged_room : ℕ
 
 -- a book of a member that has done nothing
 abbrev pub fresh_book : MemberKind → ℕ → ℕ → BookState
-fresh_book kind own set = record { kind = kind; own = own; set = set; records = []; vector = []; consumed = 9; phase = Initial }
+fresh_book kind own set = record { kind = kind; own = own; set = set; records = []; vector = []; consumed = 9; phase = Initial; staged = [] }
+
+-- the form that is staged of a file
+abbrev pub form_of : BookState → Uid → Option (List ℕ)
+form_of book uid = option_map (λ s. s.form) (find (λ s. same_uid s.uid uid) book.staged)
 
 -- the one list of intervals that covers just these versions
 pub record IsVector (known : Versions) (vector : List Interval) : Type 0 where
   pub canonical : IsCanonical vector
   pub covering : (g : Gvsn) → covers vector g ≡ known g
 
--- what is true of every book: each file has one record at most, of its content set, and of a version that it covers
+-- what is true of every book: each file has one record at most, of its content set, and of a version that it covers, and one staged form at most
 pub record IsBook (book : BookState) : Type 0 where
   pub rising : IsRising book.records
   pub set : AllByRecursion (λ u. u.set ≡ book.set) book.records
   pub covered : AllByRecursion (λ u. covers book.vector u.gvsn ≡ true) book.records
   pub canonical : IsCanonical book.vector
   pub within : length book.vector ≤ 65536
+  pub staged : IsRisingBy (λ s. s.uid) book.staged

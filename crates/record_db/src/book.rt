@@ -1,12 +1,13 @@
 // The book of a member.
 ghost use Rattle.std.specs.Prelude.{◌≡◌, ◌<◌, ◌≤◌, ◌^◌, IfErr, IfOk, OnErr, OnOk, Some, find, length, option_copied};
 ghost use Rattle.frs_base.specs.Versions.{same_uid};
-ghost use Rattle.record_db.specs.State.{IsBook, fresh_book};
+ghost use Rattle.record_db.specs.State.{IsBook, form_of, fresh_book};
 
 mod change;
 
 use crate::records::find_record;
-use frs_base::{Guid, MemberKind, Phase, ReservedVec, Uid};
+use crate::staged::{Staged, find_form};
+use frs_base::{Bytes, Guid, MemberKind, Phase, ReservedVec, Uid};
 use std::alloc::{AllocError, Global};
 use std::marker::Model;
 use version_vector::Vector;
@@ -15,10 +16,10 @@ use win_order::Update;
 /// The USN that a fresh member consumes first.
 const FIRST_USN: u64 = 9;
 
-/// What a member knows of its folder: of each file or directory the record that it holds, and the
-/// versions that it covers.
+/// What a member knows of its folder: of each file or directory the record that it holds, the
+/// versions that it covers, and the contents that it has but hasn't installed.
 ///
-/// A contract sees its state, and for how many more records it has room.
+/// A contract sees its state, and for how many more records and staged forms it has room.
 #[derive(Debug, Drop)]
 pub struct Book {
     kind: MemberKind,
@@ -28,6 +29,7 @@ pub struct Book {
     vector: Vector,
     consumed: u64,
     phase: Phase,
+    staged: ReservedVec<Staged>,
 }
 
 impl Model for Book {
@@ -35,14 +37,14 @@ impl Model for Book {
 
     ghost Value = { Seen };
 
-    ghost view = { λ b. record { state = record { kind = b.kind; own = b.own; set = b.set; records = b.records.items; vector = b.vector; consumed = b.consumed; phase = b.phase }; room = b.records.room } };
+    ghost view = { λ b. record { state = record { kind = b.kind; own = b.own; set = b.set; records = b.records.items; vector = b.vector; consumed = b.consumed; phase = b.phase; staged = b.staged.items }; room = b.records.room; staged_room = b.staged.room } };
 
-    ghost invariant = { λ b. IsBook (record { kind = b.kind; own = b.own; set = b.set; records = b.records.items; vector = b.vector; consumed = b.consumed; phase = b.phase }) };
+    ghost invariant = { λ b. IsBook (record { kind = b.kind; own = b.own; set = b.set; records = b.records.items; vector = b.vector; consumed = b.consumed; phase = b.phase; staged = b.staged.items }) };
 }
 
 impl Book {
     /// A fresh book of a member of this kind, with this database, of this content set: no records,
-    /// no versions, the initial phase, and no memory taken.
+    /// no versions, the initial phase, nothing staged, and no memory taken.
     pub fn new(kind: MemberKind, own: Guid, set: Guid) -> Book
         ensures { result.state ≡ fresh_book kind own set }
     {
@@ -54,6 +56,7 @@ impl Book {
             vector: Vector::empty(),
             consumed: FIRST_USN,
             phase: Phase::Initial,
+            staged: ReservedVec::empty(),
         }
     }
 
@@ -113,6 +116,13 @@ impl Book {
         ensures { option_copied result ≡ find (λ r. same_uid r.uid uid) self.now.state.records }
     {
         find_record(self.records.as_slice(), uid)
+    }
+
+    /// The form that is staged of a file.
+    pub fn form(&self, uid: Uid) -> Option<&Bytes>
+        ensures { option_copied result ≡ form_of self.now.state uid }
+    {
+        find_form(self.staged.as_slice(), uid)
     }
 
     /// The records in memory of their own, in order of their UIDs.

@@ -1,6 +1,7 @@
 // What is done to a book.
 ghost use Rattle.std.specs.Prelude.{◌≡◌};
 
+use frs_base::{Bytes, Uid};
 use version_vector::Vector;
 use win_order::Update;
 
@@ -10,10 +11,12 @@ pub enum BookCmd {
     /// The journal record with this USN is consumed, and makes this update, if any, whose version
     /// is that of the own database with the USN.
     RecordLocal { usn: u64, update: Option<Update> },
-    /// A partner's update is taken.
-    Adopt { update: Update },
+    /// A partner's update is taken, and what is staged of its file is then this form, or nothing.
+    Adopt { update: Update, form: Option<Bytes> },
     /// A round with a partner that sent this vector is finished.
     Finish { sent: Vector },
+    /// What is staged of a file goes.
+    Unstage { uid: Uid },
 }
 
 /// A command with the memory that it needs.

@@ -1,5 +1,5 @@
 // Laws of what a book stands for.
-ghost use Rattle.record_db.specs.Standing.{AdoptsOn, AreAlike, BeginsStanding, FindsRecords, FinishesOn, RecordsOn, StaysStanding};
+ghost use Rattle.record_db.specs.Standing.{AdoptsOn, AreAlike, BeginsStanding, FindsRecords, FinishesOn, RecordsOn, StaysStanding, UnstagesOn};
 
 /// A fresh book stands for a member that covers nothing.
 pub fn fresh_books_stand()
@@ -20,6 +20,11 @@ pub fn adopting_books_stand()
 /// So does a book whose member finishes a round over a set of which each winner is held or beaten.
 pub fn finishing_books_stand()
     ensures { FinishesOn }
+{}
+
+/// So does a book whose member lets go of what is staged of a file.
+pub fn unstaging_books_stand()
+    ensures { UnstagesOn }
 {}
 
 /// A book stays standing while other members record updates that it doesn't cover.

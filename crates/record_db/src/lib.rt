@@ -1,5 +1,5 @@
 //! The records of a member: of each file or directory the winner among all updates whose versions
-//! the member covers.
+//! the member covers; and what is staged of them: contents that aren't installed yet.
 //!
 //! Read [`Book`] first, then [`BookCmd`]: what is done to it. A change is made in two steps:
 //! [`Book::ready`] takes the memory that a command needs, and [`Book::take`] does it.
@@ -9,14 +9,16 @@ mod book;
 mod command;
 mod laws;
 mod records;
+mod staged;
 
 pub use book::Book;
 pub use command::{BookCmd, Ready};
 pub use laws::{
     adopting_books_stand, books_find_winners, books_of_one_set_are_alike, finishing_books_stand,
-    fresh_books_stand, recording_books_stand, standing_books_stay,
+    fresh_books_stand, recording_books_stand, standing_books_stay, unstaging_books_stand,
 };
 pub use records::find_record;
+pub use staged::Staged;
 
 #[cfg(test)]
 mod tests;

@@ -1,6 +1,6 @@
 // What no contract says: that the calls succeed, and books written out by hand.
 use super::*;
-use frs_base::{Guid, Gvsn, MemberKind, Name, Phase, Sum, Uid, content_set, database_of};
+use frs_base::{Bytes, Guid, Gvsn, MemberKind, Name, Phase, Sum, Uid, content_set, database_of};
 use std::alloc::Global;
 use std::test::Fail;
 use version_vector::{Interval, Vector, VectorError};
@@ -55,6 +55,11 @@ fn book() -> Book {
     Book::new(MemberKind::Plain, database_of(1), content_set())
 }
 
+/// A form of one byte.
+fn form(alloc: Global, number: u64) -> Result<Bytes, Fail> {
+    Ok(Bytes::of(Vec::from_array(alloc, [(number % 256) as u8])?))
+}
+
 /// The numbers of a line, parted by spaces.
 fn numbers_of(alloc: Global, text: &str) -> Result<Vec<u64>, Fail> {
     let mut numbers = Vec::new(alloc);
@@ -65,11 +70,13 @@ fn numbers_of(alloc: Global, text: &str) -> Result<Vec<u64>, Fail> {
 }
 
 /// The command of a line: `skip USN`, `local MEMBER VERSION BORN CLOCK USN`,
-/// `adopt MEMBER VERSION BORN CLOCK` or `finish MEMBER LOW HIGH`.
+/// `adopt MEMBER VERSION BORN CLOCK`, `stage MEMBER VERSION BORN CLOCK BYTE`,
+/// `finish MEMBER LOW HIGH` or `unstage BORN`.
 fn command(alloc: Global, line: &str) -> Result<BookCmd, Fail> {
     let (word, rest) = line.split_once(' ').ok_or("no word")?;
     let numbers = numbers_of(alloc, rest)?;
     match numbers.as_slice() {
+        [born] if word == "unstage" => Ok(BookCmd::Unstage { uid: file(*born) }),
         [usn] => Ok(BookCmd::RecordLocal {
             usn: *usn,
             update: None,
@@ -77,12 +84,17 @@ fn command(alloc: Global, line: &str) -> Result<BookCmd, Fail> {
         [member, low, high] => Ok(BookCmd::Finish {
             sent: Vector::of(alloc, &[part(*member, *low, *high)])?,
         }),
+        [member, version, born, clock, byte] if word == "stage" => Ok(BookCmd::Adopt {
+            update: update(alloc, *born, version_of(*member, *version), *clock)?,
+            form: Some(form(alloc, *byte)?),
+        }),
         [member, version, born, clock, usn] => Ok(BookCmd::RecordLocal {
             usn: *usn,
             update: Some(update(alloc, *born, version_of(*member, *version), *clock)?),
         }),
         [member, version, born, clock] if word == "adopt" => Ok(BookCmd::Adopt {
             update: update(alloc, *born, version_of(*member, *version), *clock)?,
+            form: None,
         }),
         _ => Err("no command")?,
     }
@@ -92,8 +104,12 @@ fn command(alloc: Global, line: &str) -> Result<BookCmd, Fail> {
 fn done(alloc: Global, book: &mut Book, cmd: BookCmd) -> Result<(), VectorError> {
     match cmd {
         BookCmd::RecordLocal { usn, update } => book.record_local(alloc, usn, update),
-        BookCmd::Adopt { update } => book.adopt(alloc, update),
+        BookCmd::Adopt { update, form } => book.adopt(alloc, update, form),
         BookCmd::Finish { sent } => book.finish(alloc, &sent),
+        BookCmd::Unstage { uid } => {
+            book.unstage(uid);
+            Ok(())
+        }
     }
 }
 
@@ -178,6 +194,7 @@ fn a_fresh_book_has_nothing(rt: HostRuntime) -> Result<(), Fail> {
     assert_eq!(rt; book.own(), database_of(1));
     assert_eq!(rt; book.set(), content_set());
     assert!(rt; book.held(file(9)).is_none());
+    assert!(rt; book.form(file(9)).is_none());
     Ok(())
 }
 
@@ -201,11 +218,57 @@ fn a_record_is_of_the_book_s_content_set(rt: HostRuntime) -> Result<(), Fail> {
     let alloc = rt.alloc();
     let set = Guid::of_number(7);
     let mut book = Book::new(MemberKind::Primary, database_of(1), set);
-    book.adopt(alloc, update(alloc, 9, version_of(2, 9), 100)?)?;
+    book.adopt(alloc, update(alloc, 9, version_of(2, 9), 100)?, None)?;
     for record in book.records() {
         assert_eq!(rt; record.set, set);
     }
     assert_eq!(rt; book.records().len(), 1);
+    Ok(())
+}
+
+/// The byte of the form that is staged of a file.
+fn staged_byte(book: &Book, born: u64) -> Option<u8> {
+    match book.form(file(born)) {
+        None => None,
+        Some(form) => form.as_slice().first().copied(),
+    }
+}
+
+/// What is staged, by birth.
+fn staged_text(alloc: Global, book: &Book) -> Result<String, Fail> {
+    let mut text = String::from_str(alloc, "|")?;
+    for born in 9..13u64 {
+        if let Some(byte) = staged_byte(book, born) {
+            text.push_str(format!(in alloc; " {born}={byte}")?.as_str())?;
+        }
+    }
+    Ok(text)
+}
+
+/// Commands, and what is then staged.
+fn staging_rows() -> &'static str {
+    "stage 2 20 12 300 7 -> | 12=7
+stage 2 21 10 300 8 -> | 10=8 12=7
+stage 2 22 11 300 9 -> | 10=8 11=9 12=7
+stage 3 9 11 400 6 -> | 10=8 11=6 12=7
+stage 3 18446744073709551615 9 400 5 -> | 10=8 11=6 12=7
+adopt 2 23 12 400 -> | 10=8 11=6
+local 1 9 10 500 9 -> | 11=6
+skip 10 -> | 11=6
+unstage 12 -> | 11=6
+finish 2 9 30 -> | 11=6
+unstage 11 -> |"
+}
+
+#[test]
+fn a_form_is_staged_until_its_file_changes(rt: HostRuntime) -> Result<(), Fail> {
+    let alloc = rt.alloc();
+    let mut book = book();
+    for line in staging_rows().lines() {
+        let (words, wanted) = line.split_once(" -> ").ok_or("no arrow")?;
+        done(alloc, &mut book, command(alloc, words)?)?;
+        assert_eq!(rt; staged_text(alloc, &book)?.as_str(), wanted, "{words}");
+    }
     Ok(())
 }
 

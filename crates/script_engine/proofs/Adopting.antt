@@ -1,12 +1,14 @@
 -- An update that is adopted at a member's machine is adopted at the member.
-use Rattle.std.proofs.Common.{◌≡◌, ◌≢◌, ◌<◌, ◌≤◌, ◌^◌, ◌⊎◌, ℕ, Bool, true, false, not, cond, eqb, List, [], ◌∷◌, length, refl, sym, ap, ◌∙◌, subst, arith, inl, inr, MatchOption, Option, Some, None}
-use Rattle.std.specs.Prelude.{bit_and, find, option_map}
+use Rattle.std.proofs.Common.{◌≡◌, ◌≢◌, ◌<◌, ◌≤◌, ◌^◌, ◌⊎◌, ℕ, Bool, true, false, not, cond, eqb, List, [], ◌∷◌, length, refl, sym, ap, ◌∙◌, subst, arith, inl, inr, MatchOption, Option, Some, None, Result, Ok}
+use Rattle.std.specs.Prelude.{MatchBool, MatchResult, bit_and, find, if◌then◌else◌, option_map, unwrap_or}
 use Rattle.std.proofs.lemmas.Bool.Decides.{nat_tests}
 use Rattle.frs_base.specs.Identifiers.{content_set}
 use Rattle.frs_base.specs.Options.{In, kept_if}
 use Rattle.frs_base.specs.Versions.{same_uid}
 use Rattle.frs_base.specs.declared.kind.Kind.{Kind}
 use Rattle.frs_base.specs.declared.kind.Kind.TheVariants.{Directory, File}
+use Rattle.marshal_form.specs.Local.{IsLocalForm}
+use Rattle.marshal_form.proofs.Locals.{local_forms_have_no_bad_place}
 use Rattle.version_vector.specs.Versions.{covers}
 use Rattle.win_order.specs.Order.{Beats, key_lt, key_of}
 use Rattle.win_order.specs.Refusals.{has_no_version, is_compressed, is_of_root, is_skewed, unfit_of}
@@ -20,31 +22,36 @@ use Rattle.vol_state.specs.State.{State, object_of, uid_of}
 use Rattle.vol_state.proofs.Finding.{in_at}
 use Rattle.record_db.specs.declared.command.BookCmd.TheVariants as cmd
 use Rattle.record_db.specs.Records.{Covered, plus}
+use Rattle.record_db.specs.Staged.{with_uid}
 use Rattle.record_db.specs.Steps.{IsStep, has_next}
 use Rattle.record_db.proofs.Best.{one_held}
 use Rattle.record_db.proofs.Keys.{same_uid_is}
 use Rattle.record_db.proofs.Lists.{find_in, found_held}
 use Rattle.record_db.proofs.Standing.{adopts_on}
 use Rattle.name_rules.specs.Recorded.{held_of}
-use Rattle.name_rules.specs.Tree.{kind_of}
+use Rattle.name_rules.specs.Tree.{is_file, kind_of}
 use Rattle.world_model.specs.World.{World, with_member}
 use Rattle.world_model.specs.Events.{Step, Adopt, WasSent, adopted_by}
 use Rattle.world_model.specs.Laws.{IsFitToAdopt}
 use Rattle.world_model.specs.Rounds.{IsWanted}
 use Rattle.world_model.proofs.Changing.{at_same}
 use Rattle.world_model.proofs.Flight.{adoptions_fit}
+use Rattle.folder_core.specs.declared.refusal.Refusal.{Refusal}
 use Rattle.folder_core.specs.declared.refusal.Refusal.TheVariants.{Beaten, Doubled, KindDiffers, OwnAhead, Unfit, VectorFull}
 use Rattle.folder_core.specs.declared.reply.Reply.{Reply}
 use Rattle.folder_core.specs.declared.reply.Reply.TheVariants.{Adopted, Refused}
-use Rattle.folder_core.specs.Machine.{Machine, Refuses, is_ahead}
-use Rattle.folder_core.specs.Adopt.{AnswersAdopt, adopt_refusal, beaten, doubled, first_of, kind_at, kind_differs, own_ahead, same_kind, unfit}
+use Rattle.folder_core.specs.Machine.{Machine, Refuses, first_of, is_ahead}
+use Rattle.folder_core.specs.Notes.{form_sum}
+use Rattle.folder_core.specs.Adopt.{AnswersAdopt, AnswersForm, ChecksForm, adopt_refusal, beaten, doubled, kind_at, kind_differs, own_ahead, same_kind, unfit}
 use Rattle.folder_core.specs.Books.{Changed, Takes}
-use Rattle.folder_core.specs.Sound.{IsInOrder}
+use Rattle.folder_core.specs.Sound.{IsSound as IsSoundMachine}
+use Rattle.script_engine.specs.Pulls.{HasForm}
 use Rattle.script_engine.specs.Sound.{IsSoundWorld}
 use Rattle.script_engine.specs.Standing.{MachineStands}
 use Rattle.script_engine.specs.Widening.{Exceeds, Fits}
 use Rattle.script_engine.proofs.Advancing.{Goes, beside_same}
 use Rattle.script_engine.proofs.Passing.{passes_adopt}
+use Rattle.script_engine.proofs.Staging.{staged_with}
 use Rattle.script_engine.proofs.Vectors.{vector_plus}
 use Rattle.script_engine.proofs.Widths.{covered_is, exceeds_by, fits_by}
 
@@ -149,8 +156,8 @@ kind_found w d m u s fit = by (held_of m.book.records u.uid) refl (object_of m.v
     by None e None f = inl refl
     by None e (Some o) f =
         let (here, file) = find_is (λ x. same_uid (uid_of m.volume.own x) u.uid) m.volume.objects o f in
-        let at : object_at m.volume.objects o.fid ≡ Some o = in_at 0 o m.volume.objects s.order.volume.tree.rising here in
-        let own = s.order.own ∙ s.own in
+        let at : object_at m.volume.objects o.fid ≡ Some o = in_at 0 o m.volume.objects s.sound.order.volume.tree.rising here in
+        let own = s.sound.order.own ∙ s.own in
         let uid : uid_of d o ≡ u.uid = sym (ap (λ x. uid_of x o) own) ∙ same_uid_is (uid_of m.volume.own o) u.uid file in
         inr (ap Some (fit.object_kind o.fid o (s.volume.objects o.fid ∙ at) uid))
 
@@ -181,31 +188,71 @@ no_refusal w d m u sound s ours sent wanted =
     let f = not_doubled w d m u s fit in
     λ i. first_of (a i ∷ b i ∷ c i ∷ e i ∷ f i ∷ [])
 
+-- ---- its form
+
+-- what is staged has the sum that the member has
+abbrev IsStagedOf : Update → Option (List ℕ) → Type 0
+IsStagedOf u given = (if is_file u then Some u.hash else None) ≡ option_map form_sum given
+
+-- what is taken with the update, which nothing refuses
+record TakesForm (u : Update) (m : Machine) (reply : Reply) (new : Machine) : Type 0 where
+  pub given : Option (List ℕ)
+  pub staged : IsStagedOf u given
+  pub takes : Takes (cmd.Adopt u given) Adopted m reply new
+
+takes_form : (u : Update) (form : Option (List ℕ)) (m : Machine) (reply : Reply) (new : Machine) → HasForm u form → AnswersForm u form m reply new → TakesForm u m reply new
+takes_form u form m reply new has (outcome, stages, h) = by (is_file u) refl stages
+  where
+    result : Result (Option (List ℕ)) Refusal → Type 0
+    result r = MatchResult r (λ given. Takes (cmd.Adopt u given) Adopted m reply new) (λ why. Refuses why m reply new)
+
+    taken : (form' contents : List ℕ) → form ≡ Some form' → form_sum form' ≡ u.hash → IsLocalForm form' contents → is_file u ≡ true
+        → ChecksForm form' u.hash (Some form') outcome → TakesForm u m reply new
+    taken bytes contents is sum local file (inl (at, bad, refused)) = absurd (local_forms_have_no_bad_place bytes contents at local bad)
+    taken bytes contents is sum local file (inr (more, too, inl (differs, refused))) = absurd (differs sum)
+    taken bytes contents is sum local file (inr (more, too, inr (same, done))) = record {
+      given = Some bytes;
+      staged = ap (λ b. if b then Some u.hash else None) file ∙ ap (λ s. Some s) (sym sum);
+      takes = subst result done h;
+    }
+
+    by : (b : Bool) → is_file u ≡ b → MatchBool b (ChecksForm (unwrap_or form []) u.hash (Some (unwrap_or form [])) outcome) (outcome ≡ Ok None) → TakesForm u m reply new
+    by true file checks =
+        let (bytes, contents, is, sum, local) = has file in
+        taken bytes contents is sum local file (subst (λ f. ChecksForm (unwrap_or f []) u.hash (Some (unwrap_or f [])) outcome) is checks)
+    by false other done = record {
+      given = None;
+      staged = ap (λ b. if b then Some u.hash else None) other;
+      takes = subst result done h;
+    }
+
 -- ---- the machine
 
-adopted_stands : (w : World) (d : ℕ) (u : Update) (m new : Machine) → IsSoundWorld w → MachineStands w.all (w.at d) d m → IsInOrder new → IsOurs w u → IsWanted w d u → Changed (cmd.Adopt u) m new
-    → MachineStands w.all (adopted_by u (w.at d)) d new
-adopted_stands w d u m new sound s order ours wanted changed =
+adopted_stands : (w : World) (d : ℕ) (u : Update) (given : Option (List ℕ)) (m new : Machine) → IsSoundWorld w → MachineStands w.all (w.at d) d m → IsSoundMachine new → IsOurs w u → IsWanted w d u → IsStagedOf u given
+    → Changed (cmd.Adopt u given) m new → MachineStands w.all (adopted_by u (w.at d)) d new
+adopted_stands w d u given m new sound s keeps ours wanted staged changed =
     let x = w.at d in
     let low = ours.low in
     let next : has_next u.gvsn.version ≡ true = grind (arith, nat_tests) in
-    let step : IsStep (cmd.Adopt u) m.book new.book = record { done = λ e. changed.book; passed = λ no. absurd (cc) } in
-    let on = adopts_on w.all x.known x.consumed x.phase m.book new.book u s.book sound.invariant.versions.one_each ours.here next (record { set = ours.set ∙ sym s.set; better = wanted }) step in
+    let step : IsStep (cmd.Adopt u given) m.book new.book = record { done = λ e. changed.book; passed = λ no. absurd (cc) } in
+    let on = adopts_on w.all x.known x.consumed x.phase s.forms m.book new.book u given s.book sound.invariant.versions.one_each ours.here next (record { set = ours.set ∙ sym s.set; better = wanted }) step in
     record {
-      order = order;
+      sound = keeps;
       own = changed.book.own ∙ s.own;
       set = changed.book.set ∙ s.set;
       kind = changed.book.kind ∙ s.kind;
+      forms = with_uid s.forms u.uid given;
       book = on;
+      staged = staged_with x.staged s.forms u.uid _ given s.staged staged;
       volume = subst (λ v. Stands v x.volume) (sym changed.volume) s.volume;
     }
 
 widths : (w : World) (d : ℕ) (m : Machine) (u : Update) → MachineStands w.all (w.at d) d m → plus (covers m.book.vector) u.gvsn ≡ plus (w.at d).known u.gvsn
 widths w d m u s = λ i. plus (covered_is (w.at d).known m.book.vector s.book.vector i) u.gvsn
 
-takes : (w : World) (d : ℕ) (u : Update) (m : Machine) (reply : Reply) (new : Machine) → IsSoundWorld w → MachineStands w.all (w.at d) d m → IsInOrder new → IsOurs w u → WasSent w u → IsWanted w d u
-    → Takes (cmd.Adopt u) Adopted m reply new → Adopts w d u m reply new ⊎ IsTooWide w d u m reply new
-takes w d u m reply new sound s order ours sent wanted (inl (said, changed)) =
+takes : (w : World) (d : ℕ) (u : Update) (given : Option (List ℕ)) (m : Machine) (reply : Reply) (new : Machine) → IsSoundWorld w → MachineStands w.all (w.at d) d m → IsSoundMachine new → IsOurs w u → WasSent w u → IsWanted w d u
+    → IsStagedOf u given → Takes (cmd.Adopt u given) Adopted m reply new → Adopts w d u m reply new ⊎ IsTooWide w d u m reply new
+takes w d u given m reply new sound s keeps ours sent wanted staged (inl (said, changed)) =
     let after = with_member w d (adopted_by u (w.at d)) in
     let passes = passes_adopt w d u after sound (sent, wanted, refl) in
     inl (record {
@@ -215,23 +262,24 @@ takes w d u m reply new sound s order ours sent wanted (inl (said, changed)) =
       reply_is = said;
       goes = record {
         passes = passes;
-        stands = subst (λ x. MachineStands w.all x d new) (sym (at_same w.at d (adopted_by u (w.at d)))) (adopted_stands w d u m new sound s order ours wanted changed);
+        stands = subst (λ x. MachineStands w.all x d new) (sym (at_same w.at d (adopted_by u (w.at d)))) (adopted_stands w d u given m new sound s keeps ours wanted staged changed);
         beside = beside_same w after d refl passes;
         ours = λ h. h;
         counted = let same = changed.book.consumed in omega (arith, same);
       };
       usns = ap (λ (v : State). v.next_usn) changed.volume;
     })
-takes w d u m reply new sound s order ours sent wanted (inr (count, (full, (said, same)))) = inr (record {
+takes w d u given m reply new sound s keeps ours sent wanted staged (inr (count, (full, (said, same)))) = inr (record {
   count = count;
   exceeds = exceeds_by _ (plus (w.at d).known u.gvsn) count (widths w d m u s) (vector_plus (w.at d).known u.gvsn (sound.vectors d)) full;
   reply_is = said;
   same = same;
 })
 
--- an update that was sent and is wanted is adopted, or its version would make too many intervals
-pub adopts_at : (w : World) (d : ℕ) (u : Update) (m : Machine) (reply : Reply) (new : Machine) → IsSoundWorld w → MachineStands w.all (w.at d) d m → IsInOrder new → IsOurs w u → WasSent w u → IsWanted w d u
-    → AnswersAdopt u m reply new → Adopts w d u m reply new ⊎ IsTooWide w d u m reply new
-adopts_at w d u m reply new sound s order ours sent wanted answers =
-    takes w d u m reply new sound s order ours sent wanted
-    (subst (λ r. MatchOption r (Takes (cmd.Adopt u) Adopted m reply new) (λ why. Refuses why m reply new)) (no_refusal w d m u sound s ours sent wanted) answers)
+-- an update that was sent and is wanted is adopted, a present file with its form, or its version would make too many intervals
+pub adopts_at : (w : World) (d : ℕ) (u : Update) (form : Option (List ℕ)) → HasForm u form → (m : Machine) (reply : Reply) (new : Machine) → IsSoundWorld w → MachineStands w.all (w.at d) d m → IsSoundMachine new → IsOurs w u → WasSent w u → IsWanted w d u
+    → AnswersAdopt u form m reply new → Adopts w d u m reply new ⊎ IsTooWide w d u m reply new
+adopts_at w d u form has m reply new sound s keeps ours sent wanted answers =
+    let t = takes_form u form m reply new has
+    (subst (λ r. MatchOption r (AnswersForm u form m reply new) (λ why. Refuses why m reply new)) (no_refusal w d m u sound s ours sent wanted) answers) in
+    takes w d u t.given m reply new sound s keeps ours sent wanted t.staged t.takes

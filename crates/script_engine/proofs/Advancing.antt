@@ -30,11 +30,13 @@ beside_same w new d e p j x n s = subst (λ a. MachineStands a (new.at j) j x) (
 -- so they do where what is recorded isn't covered by them
 pub machine_beside : (all more : List Update) (x : Member) (j : ℕ) (m : Machine) → ((u : Update) → In u more → x.known u.gvsn ≡ false) → MachineStands all x j m → MachineStands (all ++ more) x j m
 machine_beside all more x j m fresh s = record {
-  order = s.order;
+  sound = s.sound;
   own = s.own;
   set = s.set;
   kind = s.kind;
-  book = stays_standing all more x.known x.consumed x.phase m.book s.book fresh;
+  forms = s.forms;
+  book = stays_standing all more x.known x.consumed x.phase s.forms m.book s.book fresh;
+  staged = s.staged;
   volume = s.volume;
 }
 

@@ -15,7 +15,7 @@ use Rattle.vol_state.specs.Maps.{Maps, Stands, maps_of}
 use Rattle.vol_state.proofs.Runs.{runs_get}
 use Rattle.record_db.specs.declared.command.BookCmd.TheVariants.{RecordLocal}
 use Rattle.record_db.specs.Records.{Covered, IsHeld, plus}
-use Rattle.record_db.specs.Standing.{IsFit, IsUnused, StandsFor}
+use Rattle.record_db.specs.Standing.{dropped_by, IsFit, IsUnused, StandsFor}
 use Rattle.record_db.specs.State.{BookState}
 use Rattle.record_db.specs.Steps.{Changes, IsStep, has_next, is_allowed, own_version}
 use Rattle.record_db.proofs.Keys.{same_gvsn_refl}
@@ -34,11 +34,12 @@ use Rattle.folder_core.specs.declared.reply.Reply.TheVariants.{Made, Nothing, Re
 use Rattle.folder_core.specs.Machine.{Machine, Refuses}
 use Rattle.folder_core.specs.Books.{Changed, Takes}
 use Rattle.folder_core.specs.Consume.{AnswersConsume, AnswersRecord, is_at_end, made_at}
-use Rattle.folder_core.specs.Sound.{IsInOrder}
+use Rattle.folder_core.specs.Sound.{IsSound as IsSoundMachine}
 use Rattle.script_engine.specs.Sound.{IsSoundWorld}
 use Rattle.script_engine.specs.Standing.{AreOurs, MachineStands}
 use Rattle.script_engine.specs.Consuming.{IsAtEnd, widened}
 use Rattle.script_engine.specs.Widening.{Exceeds, Fits}
+use Rattle.script_engine.proofs.Staging.{staged_dropped}
 use Rattle.script_engine.proofs.Advancing.{Goes, machine_beside}
 use Rattle.script_engine.proofs.Passing.{Passes, passes_consume}
 use Rattle.script_engine.proofs.Vectors.{vector_plus}
@@ -170,28 +171,30 @@ weaker w d book None f = tt
 weaker w d book (Some u) f = f.0
 
 -- the machine of a member that consumed a record
-consumed_stands : (w : World) (d moment : ℕ) (m new : Machine) (made : Option Update) → IsSoundWorld w → AreOurs w.all → MachineStands w.all (w.at d) d m → IsInOrder new → Records w d moment made
+consumed_stands : (w : World) (d moment : ℕ) (m new : Machine) (made : Option Update) → IsSoundWorld w → AreOurs w.all → MachineStands w.all (w.at d) d m → IsSoundMachine new → Records w d moment made
     → has_next (w.at d).consumed ≡ true → Changed (RecordLocal m.book.consumed made) m new → MachineStands (w.all ++ option_to_list made) (consumed_by d made (w.at d)) d new
-consumed_stands w d moment m new made sound ours s order records next changed =
+consumed_stands w d moment m new made sound ours s keeps records next changed =
     let x = w.at d in
     let fit = recorded_fit w d moment m made sound ours s records in
     let changes : Changes (RecordLocal x.consumed made) m.book new.book = subst (λ n. Changes (RecordLocal n made) m.book new.book) s.book.consumed changed.book in
     let step = step_of m.book new.book x.consumed made (allowed m.book x.consumed made next (weaker w d m.book made fit)) changes in
-    let on = records_on w.all x.known x.consumed x.phase m.book new.book made s.book next (unused w d m.book.own sound s.own) fit step in
+    let on = records_on w.all x.known x.consumed x.phase s.forms m.book new.book made s.book next (unused w d m.book.own sound s.own) fit step in
     record {
-      order = order;
+      sound = keeps;
       own = changed.book.own ∙ s.own;
       set = changed.book.set ∙ s.set;
       kind = changed.book.kind ∙ s.kind;
-      book = subst (λ own. StandsFor (w.all ++ option_to_list made) (plus x.known (record { db = own; version = x.consumed })) (x.consumed + 1) x.phase new.book) s.own on;
+      forms = dropped_by made s.forms;
+      book = subst (λ own. StandsFor (w.all ++ option_to_list made) (plus x.known (record { db = own; version = x.consumed })) (x.consumed + 1) x.phase (dropped_by made s.forms) new.book) s.own on;
+      staged = staged_dropped x.staged s.forms made s.staged;
       volume = subst (λ v. Stands v x.volume) (sym changed.volume) s.volume;
     }
 
-goes_by : (w : World) (d moment : ℕ) (m new : Machine) (made : Option Update) → moment < 2 ^ 61 → IsSoundWorld w → AreOurs w.all → MachineStands w.all (w.at d) d m → IsInOrder new → Records w d moment made
+goes_by : (w : World) (d moment : ℕ) (m new : Machine) (made : Option Update) → moment < 2 ^ 61 → IsSoundWorld w → AreOurs w.all → MachineStands w.all (w.at d) d m → IsSoundMachine new → Records w d moment made
     → has_next (w.at d).consumed ≡ true → Changed (RecordLocal m.book.consumed made) m new → Goes w d m new (consumes w d made)
-goes_by w d moment m new made early sound ours s order records next changed = record {
+goes_by w d moment m new made early sound ours s keeps records next changed = record {
   passes = passes;
-  stands = subst (λ x. MachineStands (w.all ++ option_to_list made) x d new) (sym (at_same w.at d (consumed_by d made (w.at d)))) (consumed_stands w d moment m new made sound ours s order records next changed);
+  stands = subst (λ x. MachineStands (w.all ++ option_to_list made) x d new) (sym (at_same w.at d (consumed_by d made (w.at d)))) (consumed_stands w d moment m new made sound ours s keeps records next changed);
   beside = λ j x n stands. subst (λ y. MachineStands (w.all ++ option_to_list made) y j x) (passes.others j n)
       (machine_beside w.all (option_to_list made) (w.at j) j x (made_fresh w d moment made sound records j) stands);
   ours = all_ours w d moment made records;
@@ -216,18 +219,18 @@ AreBounded w d moment = (moment < 2 ^ 61) × (length w.all < 2 ^ 60) × ((w.at d
 widths : (w : World) (d : ℕ) (m : Machine) → MachineStands w.all (w.at d) d m → plus (covers m.book.vector) (own_version m.book m.book.consumed) ≡ widened w d
 widths w d m s = λ i. plus (covered_is (w.at d).known m.book.vector s.book.vector i) (record { db = s.own i; version = s.book.consumed i })
 
-book_takes : (w : World) (d moment : ℕ) (m : Machine) (reply : Reply) (new : Machine) (made : Option Update) → AreBounded w d moment → IsSoundWorld w → AreOurs w.all → MachineStands w.all (w.at d) d m → IsInOrder new
+book_takes : (w : World) (d moment : ℕ) (m : Machine) (reply : Reply) (new : Machine) (made : Option Update) → AreBounded w d moment → IsSoundWorld w → AreOurs w.all → MachineStands w.all (w.at d) d m → IsSoundMachine new
     → Records w d moment made → Takes (RecordLocal m.book.consumed made) (reply_of d (w.at d).consumed made) m reply new
     → Consumes w d moment m reply new ⊎ IsTooFull w d moment m reply new
-book_takes w d moment m reply new made (early, few, low) sound ours s order records (inl (said, changed)) = inl (record {
+book_takes w d moment m reply new made (early, few, low) sound ours s keeps records (inl (said, changed)) = inl (record {
   made = made;
   records = records;
   fits = fits_by _ (widened w d) new.book.vector (widths w d m s) changed.book.vector changed.within;
   reply_is = said;
-  goes = goes_by w d moment m new made early sound ours s order records (grind (arith, nat_tests)) changed;
+  goes = goes_by w d moment m new made early sound ours s keeps records (grind (arith, nat_tests)) changed;
   usns = ap (λ (v : State). v.next_usn) changed.volume;
 })
-book_takes w d moment m reply new made (early, few, low) sound ours s order records (inr (count, (full, (said, same)))) = inr (record {
+book_takes w d moment m reply new made (early, few, low) sound ours s keeps records (inr (count, (full, (said, same)))) = inr (record {
   made = made;
   count = count;
   records = records;
@@ -248,14 +251,14 @@ unskewed w d moment u (early, few, low) sound records =
     by false e l = refl
     by true e l = absurd (grind (arith, nat_tests))
 
-record_answers : (w : World) (d moment : ℕ) (m : Machine) (reply : Reply) (new : Machine) (made : Option Update) → AreBounded w d moment → IsSoundWorld w → AreOurs w.all → MachineStands w.all (w.at d) d m → IsInOrder new
+record_answers : (w : World) (d moment : ℕ) (m : Machine) (reply : Reply) (new : Machine) (made : Option Update) → AreBounded w d moment → IsSoundWorld w → AreOurs w.all → MachineStands w.all (w.at d) d m → IsSoundMachine new
     → Records w d moment made → AnswersRecord made m reply new → Consumes w d moment m reply new ⊎ IsTooFull w d moment m reply new
-record_answers w d moment m reply new None bounded sound ours s order records answers =
-    book_takes w d moment m reply new None bounded sound ours s order records (subst (λ n. Takes (RecordLocal m.book.consumed None) (Skipped n) m reply new) s.book.consumed answers)
-record_answers w d moment m reply new (Some u) bounded sound ours s order records answers =
+record_answers w d moment m reply new None bounded sound ours s keeps records answers =
+    book_takes w d moment m reply new None bounded sound ours s keeps records (subst (λ n. Takes (RecordLocal m.book.consumed None) (Skipped n) m reply new) s.book.consumed answers)
+record_answers w d moment m reply new (Some u) bounded sound ours s keeps records answers =
     let takes : Takes (RecordLocal m.book.consumed (Some u)) (Made u.gvsn) m reply new =
     subst (λ t. MatchBool t (Refuses (Skewed u.clock) m reply new) (Takes (RecordLocal m.book.consumed (Some u)) (Made u.gvsn) m reply new)) (unskewed w d moment u bounded sound records) answers in
-    book_takes w d moment m reply new (Some u) bounded sound ours s order records
+    book_takes w d moment m reply new (Some u) bounded sound ours s keeps records
     (subst (λ g. Takes (RecordLocal m.book.consumed (Some u)) (Made g) m reply new) (own_made w d moment u records) takes)
 
 -- what a member's machine makes of its next record is what the member makes
@@ -266,7 +269,7 @@ made_is w d moment m r s at =
     let made : made_at m moment ≡ recorded_of m.volume.own (maps_of m.volume) (base_fence m.book.phase m.book.kind) m.book.consumed moment r held =
     ap (λ found. made_of found (λ r. recorded_of m.volume.own (maps_of m.volume) (base_fence m.book.phase m.book.kind) m.book.consumed moment r (held_of m.book.records r.uid))) at in
     let maps = maps_are m.volume x.volume s.volume in
-    let own = s.order.own ∙ s.own in (
+    let own = s.sound.order.own ∙ s.own in (
       r,
       held,
       sym (ap x.volume.entry s.book.consumed) ∙ s.volume.entries m.book.consumed ∙ at,
@@ -275,9 +278,9 @@ made_is w d moment m r s at =
     )
 
 -- nothing is left, or the next record is consumed, or its version would make too many intervals
-pub consumes_at : (w : World) (d moment : ℕ) (m : Machine) (reply : Reply) (new : Machine) → AreBounded w d moment → IsSoundWorld w → AreOurs w.all → MachineStands w.all (w.at d) d m → IsInOrder new
+pub consumes_at : (w : World) (d moment : ℕ) (m : Machine) (reply : Reply) (new : Machine) → AreBounded w d moment → IsSoundWorld w → AreOurs w.all → MachineStands w.all (w.at d) d m → IsSoundMachine new
     → AnswersConsume moment m reply new → Ends w d m reply new ⊎ (Consumes w d moment m reply new ⊎ IsTooFull w d moment m reply new)
-consumes_at w d moment m reply new bounded sound ours s order answers = by (is_at_end m) refl answers
+consumes_at w d moment m reply new bounded sound ours s keeps answers = by (is_at_end m) refl answers
   where
     at_end : is_at_end m ≡ true → IsAtEnd w d
     at_end e = go ((w.at d).volume.entry (w.at d).consumed) refl
@@ -297,7 +300,7 @@ consumes_at w d moment m reply new bounded sound ours s order answers = by (is_a
     by false e a =
         let begun = sound.invariant.versions.begun d in
         let now = s.book.consumed in
-        let most = s.order.consumed in
+        let most = s.sound.order.consumed in
         let apart : m.book.consumed ≢ m.volume.next_usn = grind (arith, nat_tests) in
-        let (r, at) = next_record m.volume m.book.consumed s.order.numbered (omega (arith, begun, now)) (omega (arith, most, apart)) in
-        inr (record_answers w d moment m reply new (made_at m moment) bounded sound ours s order (made_is w d moment m r s at) a)
+        let (r, at) = next_record m.volume m.book.consumed s.sound.order.numbered (omega (arith, begun, now)) (omega (arith, most, apart)) in
+        inr (record_answers w d moment m reply new (made_at m moment) bounded sound ours s keeps (made_is w d moment m r s at) a)

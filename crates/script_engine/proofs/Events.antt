@@ -63,7 +63,7 @@ consumed_after old new at m next found machines = ap (λ ms. sum_by consumed_in 
 
 -- more isn't consumed than was made
 pub consumed_less : (machines : List Machine) (s : Scene) → MachinesStand machines s → sum_by consumed_in machines ≤ sum_by made_in machines
-consumed_less machines s h = sum_less consumed_in made_in machines (λ k m at. let most = (h.each k m at).order.consumed in omega (arith, most))
+consumed_less machines s h = sum_less consumed_in made_in machines (λ k m at. let most = (h.each k m at).sound.order.consumed in omega (arith, most))
 
 -- so few updates were recorded
 pub few_recorded : (machines : List Machine) (s : Scene) → MachinesStand machines s → HaveRoom machines → length s.world.all < 2 ^ 60
@@ -74,7 +74,7 @@ pub small_at : (machines : List Machine) (s : Scene) (k : ℕ) (m : Machine) →
 small_at machines s k m h room at =
     let stands = h.each k m at in
     let now = stands.book.consumed in
-    let most = stands.order.consumed in
+    let most = stands.sound.order.consumed in
     let part = in_sum made_in machines k m at in
     omega (arith, now, most, part, room)
 
@@ -92,7 +92,7 @@ pub record Operates (at : ℕ) (operation : LocalOp) (reply : Reply) (old new : 
 pub operated_on : (at : ℕ) (operation : LocalOp) (reply : Reply) (old new : Engine) (s : Scene) → Stands old s → new.names ≡ old.names → Answered at (event.Local operation) reply old new → Operates at operation reply old new s
 operated_on at operation reply old new s h names a =
     let d = database_of (at + 1) in
-    by (operates s.world d operation a.before reply a.after h.machines.scene.world (h.machines.each at a.before a.found) a.order a.answers)
+    by (operates s.world d operation a.before reply a.after h.machines.scene.world (h.machines.each at a.before a.found) a.sound a.answers)
   where
     by : Done s.world (database_of (at + 1)) operation a.before reply a.after ⊎ Stays s.world (database_of (at + 1)) operation a.before reply a.after → Operates at operation reply old new s
     by (inl done) = record {
@@ -125,7 +125,7 @@ pub record ConsumesAt (at moment : ℕ) (reply : Reply) (old new : Engine) (s : 
 
 pub consumed_on : (at moment : ℕ) (reply : Reply) (old new : Engine) (s : Scene) → moment < 2 ^ 61 → made_by_all old < 2 ^ 60 → Stands old s → new.names ≡ old.names → Answered at (event.Consume moment) reply old new → ConsumesAt at moment reply old new s
 consumed_on at moment reply old new s early room h names a =
-    by (consumes_at s.world (database_of (at + 1)) moment a.before reply a.after bounded h.machines.scene.world h.machines.ours (h.machines.each at a.before a.found) a.order a.answers)
+    by (consumes_at s.world (database_of (at + 1)) moment a.before reply a.after bounded h.machines.scene.world h.machines.ours (h.machines.each at a.before a.found) a.sound a.answers)
   where
     bounded : AreBounded s.world (database_of (at + 1)) moment
     bounded = (early, few_recorded (machines_of old) s h.machines room, small_at (machines_of old) s at a.before h.machines room a.found)
@@ -208,7 +208,7 @@ answered_by caller at e reply old new before after found items (entry, history, 
   after = after.machine;
   found = get_map (λ (f : Seen). f.machine) old.folders.items at before found;
   answers = enters.answers;
-  order = sound.order;
+  sound = sound;
   machines = ap (map (λ (f : Seen). f.machine)) items ∙ map_set (λ (f : Seen). f.machine) old.folders.items at after;
 }
 

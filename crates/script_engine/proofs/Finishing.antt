@@ -24,7 +24,7 @@ use Rattle.folder_core.specs.declared.reply.Reply.TheVariants.{Finished, Refused
 use Rattle.folder_core.specs.Machine.{Machine, Refuses}
 use Rattle.folder_core.specs.Books.{Changed, Takes}
 use Rattle.folder_core.specs.Finish.{AnswersFinish, HasAhead, first_unheld, is_held_or_beaten}
-use Rattle.folder_core.specs.Sound.{IsInOrder}
+use Rattle.folder_core.specs.Sound.{IsSound as IsSoundMachine}
 use Rattle.script_engine.specs.Pulls.{MayFinish}
 use Rattle.script_engine.specs.Sound.{IsSoundWorld}
 use Rattle.script_engine.specs.Standing.{MachineStands}
@@ -75,17 +75,19 @@ all_seen w d m seen s held = find_none (λ u. not (is_held_or_beaten m.book.reco
 
 -- ---- the machine
 
-finished_stands : (w : World) (d : ℕ) (s : Versions) (sent : List Interval) (seen : List Update) (m new : Machine) → IsSoundWorld w → MachineStands w.all (w.at d) d m → IsInOrder new → MayFinish w d s sent seen
+finished_stands : (w : World) (d : ℕ) (s : Versions) (sent : List Interval) (seen : List Update) (m new : Machine) → IsSoundWorld w → MachineStands w.all (w.at d) d m → IsSoundMachine new → MayFinish w d s sent seen
     → Changed (cmd.Finish sent) m new → MachineStands w.all (finished_by s (w.at d)) d new
-finished_stands w d s sent seen m new sound stands order may changed =
+finished_stands w d s sent seen m new sound stands keeps may changed =
     let x = w.at d in
     let step : IsStep (cmd.Finish sent) m.book new.book = record { done = λ e. changed.book; passed = λ no. absurd (cc) } in
     record {
-      order = order;
+      sound = keeps;
       own = changed.book.own ∙ stands.own;
       set = changed.book.set ∙ stands.set;
       kind = changed.book.kind ∙ stands.kind;
-      book = finishes_on w.all x.known s x.consumed x.phase m.book new.book sent stands.book sound.invariant.versions.one_each may.vector.covering may.held step;
+      forms = stands.forms;
+      staged = stands.staged;
+      book = finishes_on w.all x.known s x.consumed x.phase stands.forms m.book new.book sent stands.book sound.invariant.versions.one_each may.vector.covering may.held step;
       volume = subst (λ v. Stands v x.volume) (sym changed.volume) stands.volume;
     }
 
@@ -94,9 +96,9 @@ widths w d s sent m stands is =
     let theirs : covers sent ≡ s = one_set (covers sent) s is.covering in
     λ i. both (covered_is (w.at d).known m.book.vector stands.book.vector i) (theirs i)
 
-takes : (w : World) (d : ℕ) (s : Versions) (sent : List Interval) (seen : List Update) (m : Machine) (reply : Reply) (new : Machine) → IsSoundWorld w → MachineStands w.all (w.at d) d m → IsInOrder new → MayFinish w d s sent seen
+takes : (w : World) (d : ℕ) (s : Versions) (sent : List Interval) (seen : List Update) (m : Machine) (reply : Reply) (new : Machine) → IsSoundWorld w → MachineStands w.all (w.at d) d m → IsSoundMachine new → MayFinish w d s sent seen
     → Takes (cmd.Finish sent) Finished m reply new → Finishes w d s m reply new ⊎ IsTooWide w d s m reply new
-takes w d s sent seen m reply new sound stands order may (inl (said, changed)) =
+takes w d s sent seen m reply new sound stands keeps may (inl (said, changed)) =
     let after = with_member w d (finished_by s (w.at d)) in
     let passes = passes_finish w d s after sound (sent, may.vector) (may.was_sent, may.held, refl) in
     inl (record {
@@ -106,14 +108,14 @@ takes w d s sent seen m reply new sound stands order may (inl (said, changed)) =
       reply_is = said;
       goes = record {
         passes = passes;
-        stands = subst (λ x. MachineStands w.all x d new) (sym (at_same w.at d (finished_by s (w.at d)))) (finished_stands w d s sent seen m new sound stands order may changed);
+        stands = subst (λ x. MachineStands w.all x d new) (sym (at_same w.at d (finished_by s (w.at d)))) (finished_stands w d s sent seen m new sound stands keeps may changed);
         beside = beside_same w after d refl passes;
         ours = λ h. h;
         counted = let same = changed.book.consumed in omega (arith, same);
       };
       usns = ap (λ (v : State). v.next_usn) changed.volume;
     })
-takes w d s sent seen m reply new sound stands order may (inr (count, (full, (said, same)))) = inr (record {
+takes w d s sent seen m reply new sound stands keeps may (inr (count, (full, (said, same)))) = inr (record {
   count = count;
   exceeds = exceeds_by _ (both (w.at d).known s) count (widths w d s sent m stands may.vector) (vector_both (w.at d).known s (sound.vectors d) (sent, may.vector)) full;
   reply_is = said;
@@ -121,9 +123,9 @@ takes w d s sent seen m reply new sound stands order may (inr (count, (full, (sa
 })
 
 -- a round that may be finished is, or its vector would have too many intervals
-pub finishes_at : (w : World) (d : ℕ) (s : Versions) (sent : List Interval) (seen : List Update) (m : Machine) (reply : Reply) (new : Machine) → IsSoundWorld w → MachineStands w.all (w.at d) d m → IsInOrder new → MayFinish w d s sent seen
+pub finishes_at : (w : World) (d : ℕ) (s : Versions) (sent : List Interval) (seen : List Update) (m : Machine) (reply : Reply) (new : Machine) → IsSoundWorld w → MachineStands w.all (w.at d) d m → IsSoundMachine new → MayFinish w d s sent seen
     → AnswersFinish sent seen m reply new → Finishes w d s m reply new ⊎ IsTooWide w d s m reply new
-finishes_at w d s sent seen m reply new sound stands order may (inl (version, least, refused)) = absurd (none_ahead w d s sent seen m version sound stands may least.0)
-finishes_at w d s sent seen m reply new sound stands order may (inr (none, answers)) =
-    takes w d s sent seen m reply new sound stands order may
+finishes_at w d s sent seen m reply new sound stands keeps may (inl (version, least, refused)) = absurd (none_ahead w d s sent seen m version sound stands may least.0)
+finishes_at w d s sent seen m reply new sound stands keeps may (inr (none, answers)) =
+    takes w d s sent seen m reply new sound stands keeps may
     (subst (λ found. MatchOption found (Takes (cmd.Finish sent) Finished m reply new) (λ u. Refuses (Unheld u.uid) m reply new)) (all_seen w d m seen stands may.pages) answers)

@@ -12,6 +12,7 @@ pub mod Scenes
 pub mod Pairs
 pub mod Going
 pub mod Advancing
+pub mod Staging
 pub mod Operating
 pub mod Widths
 pub mod Consumption

@@ -22,7 +22,7 @@ use Rattle.folder_core.specs.declared.reply.Reply.{Reply}
 use Rattle.folder_core.specs.declared.reply.Reply.TheVariants.{Refused as Refuses, Usn}
 use Rattle.folder_core.specs.Machine.{Machine, Refuses as IsRefusedBy}
 use Rattle.folder_core.specs.Local.{AnswersLocal, Operates}
-use Rattle.folder_core.specs.Sound.{IsInOrder}
+use Rattle.folder_core.specs.Sound.{IsSound as IsSoundMachine}
 use Rattle.script_engine.specs.Sound.{IsSoundWorld}
 use Rattle.script_engine.specs.Standing.{MachineStands}
 use Rattle.script_engine.proofs.Advancing.{Goes, beside_same}
@@ -46,20 +46,22 @@ pub record Stays (w : World) (d : ℕ) (op : LocalOp) (m : Machine) (reply : Rep
   pub same : new ≡ m
 
 -- the machine of a member whose volume went on
-operated_stands : (w : World) (d : ℕ) (cmd : VolCmd) (m new : Machine) → MachineStands w.all (w.at d) d m → IsInOrder new → IsLocal (w.at d).volume cmd → new ≡ record m { volume = effect cmd m.volume }
+operated_stands : (w : World) (d : ℕ) (cmd : VolCmd) (m new : Machine) → MachineStands w.all (w.at d) d m → IsSoundMachine new → IsLocal (w.at d).volume cmd → new ≡ record m { volume = effect cmd m.volume }
     → MachineStands w.all (operated d cmd (w.at d)) d new
-operated_stands w d cmd m new s order may is =
+operated_stands w d cmd m new s keeps may is =
     let x = w.at d in
-    let o = s.order in
+    let o = s.sound.order in
     let stands : Stands (effect cmd m.volume) (write m.volume.own cmd x.volume) =
     stands_on cmd m.volume x.volume o.volume o.free (tables_are_tests cmd m.volume x.volume o.volume o.free s.volume (inl may)) s.volume in
     let own : Stands (effect cmd m.volume) (write d cmd x.volume) = subst (λ n. Stands (effect cmd m.volume) (write n cmd x.volume)) (o.own ∙ s.own) stands in
     record {
-      order = order;
+      sound = keeps;
       own = ap (λ (y : Machine). y.book.own) is ∙ s.own;
       set = ap (λ (y : Machine). y.book.set) is ∙ s.set;
       kind = ap (λ (y : Machine). y.book.kind) is ∙ s.kind;
-      book = subst (StandsFor w.all x.known x.consumed x.phase) (sym (ap (λ (y : Machine). y.book) is)) s.book;
+      forms = s.forms;
+      book = subst (StandsFor w.all x.known x.consumed x.phase s.forms) (sym (ap (λ (y : Machine). y.book) is)) s.book;
+      staged = s.staged;
       volume = subst (λ v. Stands v (write d cmd x.volume)) (sym (ap (λ (y : Machine). y.volume) is)) own;
     }
 
@@ -76,9 +78,9 @@ write_next own (Make uid kind bytes) m = refl
 write_next own (Rewrite fid bytes) m = refl
 write_next own (Place fid parent name) m = refl
 
-done : (w : World) (d : ℕ) (op : LocalOp) (cmd : VolCmd) (m : Machine) (reply : Reply) (new : Machine) → IsSoundWorld w → MachineStands w.all (w.at d) d m → IsInOrder new
+done : (w : World) (d : ℕ) (op : LocalOp) (cmd : VolCmd) (m : Machine) (reply : Reply) (new : Machine) → IsSoundWorld w → MachineStands w.all (w.at d) d m → IsSoundMachine new
     → Resolves (w.at d).volume op (Ok cmd) → Operates cmd m reply new → Done w d op m reply new
-done w d op cmd m reply new sound s order resolves (said, is) =
+done w d op cmd m reply new sound s keeps resolves (said, is) =
     let may = resolved_may op (w.at d).volume cmd resolves in
     let after = with_member w d (operated d cmd (w.at d)) in
     let passes = passes_local w d cmd after sound (may, refl) in
@@ -90,20 +92,20 @@ done w d op cmd m reply new sound s order resolves (said, is) =
       reply_is = said ∙ ap Usn (sym s.volume.next_usn);
       goes = record {
         passes = passes;
-        stands = subst (λ x. MachineStands w.all x d new) (sym (at_same w.at d (operated d cmd (w.at d)))) (operated_stands w d cmd m new s order may is);
+        stands = subst (λ x. MachineStands w.all x d new) (sym (at_same w.at d (operated d cmd (w.at d)))) (operated_stands w d cmd m new s keeps may is);
         beside = beside_same w after d refl passes;
         ours = λ h. h;
         counted = let same = ap (λ (y : Machine). y.book.consumed) is in omega (arith, same);
       };
-      usns = sym (operated_stands w d cmd m new s order may is).volume.next_usn ∙ write_next d cmd (w.at d).volume ∙ ap (λ n. n + 1) s.volume.next_usn;
+      usns = sym (operated_stands w d cmd m new s keeps may is).volume.next_usn ∙ write_next d cmd (w.at d).volume ∙ ap (λ n. n + 1) s.volume.next_usn;
     }
 
 -- it is done, or refused
-pub operates : (w : World) (d : ℕ) (op : LocalOp) (m : Machine) (reply : Reply) (new : Machine) → IsSoundWorld w → MachineStands w.all (w.at d) d m → IsInOrder new
+pub operates : (w : World) (d : ℕ) (op : LocalOp) (m : Machine) (reply : Reply) (new : Machine) → IsSoundWorld w → MachineStands w.all (w.at d) d m → IsSoundMachine new
     → AnswersLocal op m reply new → Done w d op m reply new ⊎ Stays w d op m reply new
-operates w d op m reply new sound s order answers = by (resolve m.volume.objects op) (lists_resolve op m.volume (w.at d).volume s.order.volume s.volume) answers
+operates w d op m reply new sound s keeps answers = by (resolve m.volume.objects op) (lists_resolve op m.volume (w.at d).volume s.sound.order.volume s.volume) answers
   where
     by : (answer : Result VolCmd Refused) → Resolves (w.at d).volume op answer → MatchResult answer (λ cmd. Operates cmd m reply new) (λ why. IsRefusedBy (Local why) m reply new)
         → Done w d op m reply new ⊎ Stays w d op m reply new
-    by (Ok cmd) resolves a = inl (done w d op cmd m reply new sound s order resolves a)
+    by (Ok cmd) resolves a = inl (done w d op cmd m reply new sound s keeps resolves a)
     by (Err why) resolves (said, same) = inr (record { why = why; resolves = resolves; reply_is = said; same = same })

@@ -21,13 +21,14 @@ use Rattle.world_model.specs.Events.{IsOfFile, IsOfPage, sends_update, sends_vec
 use Rattle.world_model.specs.Rounds.{IsWanted}
 use Rattle.folder_core.specs.declared.event.Event.TheVariants as event
 use Rattle.folder_core.specs.declared.reply.Reply.{Reply}
+use Rattle.folder_core.specs.Laws.{FilesHaveForms}
 use Rattle.folder_core.specs.Machine.{Machine}
 use Rattle.folder_core.specs.Replay.{Seen}
 use Rattle.script_engine.specs.declared.engine.Engine.{Engine}
 use Rattle.script_engine.specs.declared.refusal.Refusal.{Refusal}
 use Rattle.script_engine.specs.declared.refusal.Refusal.TheVariants.{VectorFull}
 use Rattle.script_engine.specs.Engines.{Answered, Stands, machines_of, made_by_all}
-use Rattle.script_engine.specs.Pulls.{CanTake, Ended, FetchedFrom, IsPinned, MayFinish, Says, Took}
+use Rattle.script_engine.specs.Pulls.{CanTake, Ended, FetchedFrom, HasForm, IsPinned, MayFinish, Says, Took}
 use Rattle.script_engine.specs.Replies.{file_of, pinned_of, taken_of}
 use Rattle.script_engine.specs.declared.names.MemberName.{MemberName}
 use Rattle.script_engine.specs.Scene.{Scene, in_world, numbered}
@@ -37,7 +38,7 @@ use Rattle.script_engine.proofs.Events.{few_recorded, made_after, small_at, stan
 use Rattle.script_engine.proofs.Finishing.{Finishes, IsTooWide as IsTooWideIn, finishes_at}
 use Rattle.script_engine.proofs.Pairs.{get_within}
 use Rattle.script_engine.proofs.Spoken.{machine_held}
-use Rattle.script_engine.proofs.Serving.{Sends, Waits, files_at, sent_update_stands, sent_vector_stands}
+use Rattle.script_engine.proofs.Serving.{IsBodyOf, Sends, Waits, files_at, sent_update_stands, sent_vector_stands}
 
 -- ---- bounds
 
@@ -134,9 +135,9 @@ is_ours machines s server u h room sent =
     record { here = here; set = ours.0; flags = ours.1; few = few_recorded machines s h room; low = omega (arith, below, small) }
 
 pub adopted_on : (at server entry : ℕ) (form : Option (List ℕ)) (u : Update) (reply : Reply) (old new : Engine) (s : Scene) → made_by_all old < 2 ^ 60 → Stands old s → new.names ≡ old.names
-    → Answered at (event.Adopt server entry u form) reply old new → CanTake s.world (database_of (at + 1)) server u → AdoptsAt at server u reply old new s
-adopted_on at server entry form u reply old new s room h names a can =
-    by (adopts_at (sends_update s.world server u) (database_of (at + 1)) u a.before reply a.after there.scene.world (there.each at a.before a.found) a.order (is_ours (machines_of old) s server u h.machines room can.sent) (server, inl refl) can.wanted a.answers)
+    → Answered at (event.Adopt server entry u form) reply old new → HasForm u form → CanTake s.world (database_of (at + 1)) server u → AdoptsAt at server u reply old new s
+adopted_on at server entry form u reply old new s room h names a has can =
+    by (adopts_at (sends_update s.world server u) (database_of (at + 1)) u form has a.before reply a.after there.scene.world (there.each at a.before a.found) a.sound (is_ours (machines_of old) s server u h.machines room can.sent) (server, inl refl) can.wanted a.answers)
   where
     there : MachinesStand (machines_of old) (in_world s (sends_update s.world server u))
     there = sent_update_stands (machines_of old) s at server u h.machines (within_names old s at a.before h a.found) (can.sent, refl)
@@ -163,9 +164,16 @@ adopted_on at server entry form u reply old new s room h names a can =
 
 -- what an answer says
 abbrev pub Answers : World → ℕ → Update → FileAnswer → Type 0
-Answers w d u (answer.Found at v) = (v.uid ≡ u.uid) × IsOfFile w d v
+Answers w d u (answer.Found at v body) = (v.uid ≡ u.uid) × IsOfFile w d v × IsBodyOf v body
 Answers w d u (answer.NotYet usn) = FetchedFrom w d u.uid (Err usn)
 Answers w d u answer.NoRecord = ⊥
+
+-- a form whose length has 64 bits is one of a local file
+pub has_form : (u : Update) (body given : Option (List ℕ)) → IsBodyOf u body → MatchOption body (Unit {0}) (λ form. length form < 2 ^ 64) → given ≡ body → HasForm u given
+has_form u body given h short same file =
+    let (form, is, sum, local) = h file in
+    let (contents, of) = local (subst (λ b. MatchOption b (Unit {0}) (λ f. length f < 2 ^ 64)) is short) in
+    (form, contents, same ∙ is, sum, of)
 
 pub record FetchesAt (at : ℕ) (u : Update) (reply : Reply) (old new : Engine) (s : Scene) : Type 0 where
   pub outcome : FileAnswer
@@ -174,10 +182,10 @@ pub record FetchesAt (at : ℕ) (u : Update) (reply : Reply) (old new : Engine) 
   pub stands : Stands new s
   pub made : made_by_all new ≡ made_by_all old
 
-pub fetched_on : (at : ℕ) (u : Update) (reply : Reply) (old new : Engine) (s : Scene) → Stands old s → new.names ≡ old.names → Answered at (event.File u.uid) reply old new
+pub fetched_on : FilesHaveForms → (at : ℕ) (u : Update) (reply : Reply) (old new : Engine) (s : Scene) → Stands old s → new.names ≡ old.names → Answered at (event.File u.uid) reply old new
     → Covered s.world.all (s.world.at (database_of (at + 1))).known u → FetchesAt at u reply old new s
-fetched_on at u reply old new s h names a covered =
-    let (came, same) = files_at s.world (database_of (at + 1)) u a.place a.before reply a.after (h.machines.each at a.before a.found) covered a.answers in
+fetched_on forms at u reply old new s h names a covered =
+    let (came, same) = files_at forms s.world (database_of (at + 1)) u a.place a.before reply a.after (h.machines.each at a.before a.found) covered a.answers in
     by came same
   where
     by : Waits s.world (database_of (at + 1)) u.uid reply ⊎ Sends s.world (database_of (at + 1)) u.uid a.place reply → a.after ≡ a.before → FetchesAt at u reply old new s
@@ -189,9 +197,9 @@ fetched_on at u reply old new s h names a covered =
       made = same_made old new at a.before a.after a.found a.machines (ap (λ (y : Machine). y.volume.next_usn) same);
     }
     by (inr x) same = record {
-      outcome = answer.Found a.place x.update;
+      outcome = answer.Found a.place x.update x.body;
       reads = ap file_of x.reply_is;
-      answers = (x.file, x.of_file);
+      answers = (x.file, x.of_file, x.form);
       stands = stands_still old new s at a.before a.after h names a.found a.machines same;
       made = same_made old new at a.before a.after a.found a.machines (ap (λ (y : Machine). y.volume.next_usn) same);
     }
@@ -209,7 +217,7 @@ pub record FinishesAt (at : ℕ) (versions : Versions) (reply : Reply) (old new 
 pub finished_on : (at server entry : ℕ) (versions : Versions) (sent : List Interval) (seen : List Update) (reply : Reply) (old new : Engine) (s : Scene) → Stands old s → new.names ≡ old.names
     → Answered at (event.Finish server entry sent seen) reply old new → MayFinish s.world (database_of (at + 1)) versions sent seen → FinishesAt at versions reply old new s
 finished_on at server entry versions sent seen reply old new s h names a may =
-    by (finishes_at s.world (database_of (at + 1)) versions sent seen a.before reply a.after h.machines.scene.world (h.machines.each at a.before a.found) a.order may a.answers)
+    by (finishes_at s.world (database_of (at + 1)) versions sent seen a.before reply a.after h.machines.scene.world (h.machines.each at a.before a.found) a.sound may a.answers)
   where
     by : Finishes s.world (database_of (at + 1)) versions a.before reply a.after ⊎ IsTooWideIn s.world (database_of (at + 1)) versions a.before reply a.after → FinishesAt at versions reply old new s
     by (inl x) = record {

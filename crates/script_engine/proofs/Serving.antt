@@ -1,6 +1,8 @@
 -- What a member's machine sends, the member sends.
-use Rattle.std.proofs.Common.{◌≡◌, ◌<◌, ◌⊎◌, ℕ, List, length, refl, subst, inl, inr, Option, Some, None}
+use Rattle.std.proofs.Common.{◌≡◌, ◌<◌, ◌^◌, ◌⊎◌, ℕ, true, List, length, refl, subst, inl, inr, Option, Some, None}
+use Rattle.std.specs.Prelude.{if◌then◌else◌}
 use Rattle.frs_base.specs.declared.version.Uid.{Uid}
+use Rattle.marshal_form.specs.Local.{IsLocalForm}
 use Rattle.win_order.specs.declared.update.Update.{Update}
 use Rattle.vol_state.specs.Journal.{pending_local}
 use Rattle.vol_state.specs.Pending.{IsLastPending as IsLastIn}
@@ -9,13 +11,16 @@ use Rattle.record_db.specs.Records.{Covered, IsHeld}
 use Rattle.record_db.proofs.Lists.{found_held}
 use Rattle.name_rules.specs.Next.{IsPending}
 use Rattle.name_rules.specs.Recorded.{held_of}
+use Rattle.name_rules.specs.Tree.{is_file}
 use Rattle.pinned_pages.specs.declared.answer.FileAnswer.TheVariants.{Found, NotYet}
 use Rattle.world_model.specs.World.{World}
 use Rattle.world_model.specs.Events.{IsOfFile, Step, SendUpdate, sends_update, sends_vector}
 use Rattle.folder_core.specs.declared.reply.Reply.{Reply}
 use Rattle.folder_core.specs.declared.reply.Reply.TheVariants.{File}
 use Rattle.folder_core.specs.Machine.{Machine}
-use Rattle.folder_core.specs.Serve.{AnswersFile, answer_by}
+use Rattle.folder_core.specs.Laws.{FilesHaveForms}
+use Rattle.folder_core.specs.Notes.{form_sum}
+use Rattle.folder_core.specs.Serve.{AnswersFile, answer_by, form_at}
 use Rattle.script_engine.specs.Scene.{Scene, in_world}
 use Rattle.script_engine.specs.Standing.{MachineStands, MachinesStand}
 use Rattle.script_engine.specs.Pulling.{IsLastPending}
@@ -51,18 +56,24 @@ pub record Waits (w : World) (d : ℕ) (uid : Uid) (reply : Reply) : Type 0 wher
   pub last : IsLastPending w d uid usn
   pub reply_is : reply ≡ File (NotYet usn)
 
+-- a present file's form is sent with it
+abbrev pub IsBodyOf : Update → Option (List ℕ) → Type 0
+IsBodyOf u body = is_file u ≡ true → (form : List ℕ) × (body ≡ Some form) × (form_sum form ≡ u.hash) × (length form < 2 ^ 64 → (contents : List ℕ) × IsLocalForm form contents)
+
 -- its record is sent
 pub record Sends (w : World) (d : ℕ) (uid : Uid) (at : ℕ) (reply : Reply) : Type 0 where
   pub update : Update
+  pub body : Option (List ℕ)
   pub file : update.uid ≡ uid
   pub of_file : IsOfFile w d update
-  pub reply_is : reply ≡ File (Found at update)
+  pub form : IsBodyOf update body
+  pub reply_is : reply ≡ File (Found at update body)
 
 -- nothing of the file is pending, or the last that is has this USN
 pending_cases : (w : World) (d : ℕ) (m : Machine) (uid : Uid) → MachineStands w.all (w.at d) d m → IsLastIn (w.at d).volume uid (w.at d).consumed (pending_local m.volume.journal uid m.book.consumed)
 pending_cases w d m uid s =
     subst (λ n. IsLastIn (w.at d).volume uid n (pending_local m.volume.journal uid m.book.consumed)) s.book.consumed
-    (pending_is_last m.volume (w.at d).volume uid m.book.consumed s.order.numbered s.volume)
+    (pending_is_last m.volume (w.at d).volume uid m.book.consumed s.sound.order.numbered s.volume)
 
 none_pending : (w : World) (d : ℕ) (uid : Uid) → IsLastIn (w.at d).volume uid (w.at d).consumed None → IsPending (w.at d).consumed (w.at d).volume uid → ⊥
 none_pending w d uid none (n, r, past, at, local, same) = none n (r, at, past, local, same)
@@ -73,14 +84,22 @@ last_pending w d uid usn ((r, at, past, local, same), most) = record {
   last = λ n q low here is_local file. most n (q, here, low, is_local, file);
 }
 
--- a member that covers an update of the file has a record of it
-pub files_at : (w : World) (d : ℕ) (u : Update) (at : ℕ) (m : Machine) (reply : Reply) (new : Machine) → MachineStands w.all (w.at d) d m → Covered w.all (w.at d).known u
+-- a member that covers an update of the file has a record of it, and sends the form of a present file
+pub files_at : FilesHaveForms → (w : World) (d : ℕ) (u : Update) (at : ℕ) (m : Machine) (reply : Reply) (new : Machine) → MachineStands w.all (w.at d) d m → Covered w.all (w.at d).known u
     → AnswersFile u.uid at m reply new → (Waits w d u.uid reply ⊎ Sends w d u.uid at reply) × (new ≡ m)
-files_at w d u at m reply new s covered (said, same) =
-    (by (held_of m.book.records u.uid) (found_held w.all (w.at d).known m.book.records u.uid s.book.records) (pending_local m.volume.journal u.uid m.book.consumed) (pending_cases w d m u.uid s) said, same)
+files_at forms w d u at m reply new s covered (said, same) =
+    (by (held_of m.book.records u.uid) refl (found_held w.all (w.at d).known m.book.records u.uid s.book.records) (pending_local m.volume.journal u.uid m.book.consumed) refl (pending_cases w d m u.uid s) said, same)
   where
-    by : (held : Option Update) → IsHeld (Covered w.all (w.at d).known) u.uid held → (waiting : Option ℕ) → IsLastIn (w.at d).volume u.uid (w.at d).consumed waiting → reply ≡ File (answer_by at held waiting)
-        → Waits w d u.uid reply ⊎ Sends w d u.uid at reply
-    by None none waiting last e = absurd (none u covered refl)
-    by (Some v) is (Some usn) last e = inl (record { usn = usn; last = last_pending w d u.uid usn last; reply_is = e })
-    by (Some v) is None last e = inr (record { update = v; file = is.1; of_file = (is.0, λ p. none_pending w d u.uid last (subst (IsPending (w.at d).consumed (w.at d).volume) is.1 p)); reply_is = e })
+    by : (held : Option Update) → held_of m.book.records u.uid ≡ held → IsHeld (Covered w.all (w.at d).known) u.uid held
+        → (waiting : Option ℕ) → pending_local m.volume.journal u.uid m.book.consumed ≡ waiting → IsLastIn (w.at d).volume u.uid (w.at d).consumed waiting
+        → reply ≡ File (answer_by at held waiting (form_at m u.uid)) → Waits w d u.uid reply ⊎ Sends w d u.uid at reply
+    by None p none waiting q last e = absurd (none u covered refl)
+    by (Some v) p is (Some usn) q last e = inl (record { usn = usn; last = last_pending w d u.uid usn last; reply_is = e })
+    by (Some v) p is None q last e = inr (record {
+      update = v;
+      body = if is_file v then form_at m u.uid else None;
+      file = is.1;
+      of_file = (is.0, λ x. none_pending w d u.uid last (subst (IsPending (w.at d).consumed (w.at d).volume) is.1 x));
+      form = λ file. forms at at m u.uid v (if is_file v then form_at m u.uid else None) s.sound s.set (λ i. answer_by at (p i) (q i) (form_at m u.uid)) file;
+      reply_is = e;
+    })

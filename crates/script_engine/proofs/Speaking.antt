@@ -14,7 +14,7 @@ use Rattle.world_model.specs.World.{Member, World, fresh_member}
 use Rattle.world_model.proofs.Changing.{at_other, at_same}
 use Rattle.folder_core.specs.Machine.{Machine, fresh_machine}
 use Rattle.folder_core.specs.Replay.{Seen}
-use Rattle.folder_core.specs.Sound.{IsInOrder}
+use Rattle.folder_core.specs.Sound.{IsSound as IsSoundMachine}
 use Rattle.script_lang.specs.declared.line.Line.{Line}
 use Rattle.script_lang.specs.declared.line.Line.TheVariants as lines
 use Rattle.script_engine.specs.declared.engine.Engine.{Engine}
@@ -95,20 +95,22 @@ push_at (x ∷ xs) y zero z e = inl e
 push_at (x ∷ xs) y (suc k) z e = elim (push_at xs y k z e) [ inl old ↦ inl old | inr now ↦ inr (ap suc now.0, now.1) ]
 
 -- the machine of a member that has done nothing
-fresh_stands : (all : List Update) (x : Member) (d : ℕ) (kind before : MemberKind) → x ≡ fresh_member before → IsInOrder (fresh_machine kind d content_set) → MachineStands all (record x { kind = kind }) d (fresh_machine kind d content_set)
-fresh_stands all x d kind before is order = subst (λ y. MachineStands all (record y { kind = kind }) d (fresh_machine kind d content_set)) (sym is) (record {
-  order = order;
+fresh_stands : (all : List Update) (x : Member) (d : ℕ) (kind before : MemberKind) → x ≡ fresh_member before → IsSoundMachine (fresh_machine kind d content_set) → MachineStands all (record x { kind = kind }) d (fresh_machine kind d content_set)
+fresh_stands all x d kind before is keeps = subst (λ y. MachineStands all (record y { kind = kind }) d (fresh_machine kind d content_set)) (sym is) (record {
+  sound = keeps;
   own = refl;
   set = refl;
   kind = refl;
+  forms = λ uid. None;
   book = begins_standing kind d content_set all;
+  staged = λ uid. refl;
   volume = (fresh_lists d).stands;
 })
 
 -- machines that stand for a scene go on to with one more
-pub machines_more : (machines : List Machine) (s : Scene) (name : List ℕ) (kind : MemberKind) → MachinesStand machines s → IsInOrder (fresh_machine kind (database_of (length s.names + 1)) content_set)
+pub machines_more : (machines : List Machine) (s : Scene) (name : List ℕ) (kind : MemberKind) → MachinesStand machines s → IsSoundMachine (fresh_machine kind (database_of (length s.names + 1)) content_set)
     → MachinesStand (machines ++ fresh_machine kind (database_of (length s.names + 1)) content_set ∷ []) (with_name s name kind)
-machines_more machines s name kind h order = record {
+machines_more machines s name kind h keeps = record {
   many = let a = length-append machines (fresh_machine kind (database_of (length s.names + 1)) content_set ∷ []) in
       let b = length-append s.names (name ∷ []) in
       let many = h.many in omega (arith, a, b, many);
@@ -131,7 +133,7 @@ machines_more machines s name kind h order = record {
         let d = database_of (length s.names + 1) in
         let nobody : IsNobodys s (database_of (length s.names + 1)) = λ j within e. omega (arith, within, e) in
         let (kept, was) = h.scene.unnamed (database_of (length s.names + 1)) nobody in
-        let fresh = fresh_stands s.world.all (s.world.at (database_of (length s.names + 1))) (database_of (length s.names + 1)) kind kept was order in
+        let fresh = fresh_stands s.world.all (s.world.at (database_of (length s.names + 1))) (database_of (length s.names + 1)) kind kept was keeps in
         let here = subst (λ x. MachineStands s.world.all x (database_of (length s.names + 1)) (fresh_machine kind (database_of (length s.names + 1)) content_set))
         (sym (at_same s.world.at (database_of (length s.names + 1)) (record (s.world.at (database_of (length s.names + 1))) { kind = kind }))) fresh in
         let many = h.many in
@@ -141,11 +143,11 @@ machines_more machines s name kind h order = record {
 
 -- an engine with one more member
 pub stands_more : (old new : Engine) (s : Scene) (name : List ℕ) (kind : MemberKind) (m : MemberName) (f : Seen) → Stands old s → is_name_or_empty name ≡ true → new.names.items ≡ old.names.items ++ m ∷ [] → new.folders.items ≡ old.folders.items ++ f ∷ []
-    → m ≡ record { db = database_of (length old.names.items + 1); name = name } → f.machine ≡ fresh_machine kind (database_of (length old.names.items + 1)) content_set → IsInOrder f.machine → Stands new (with_name s name kind)
-stands_more old new s name kind m f h formed names folders named fresh order = record {
+    → m ≡ record { db = database_of (length old.names.items + 1); name = name } → f.machine ≡ fresh_machine kind (database_of (length old.names.items + 1)) content_set → IsSoundMachine f.machine → Stands new (with_name s name kind)
+stands_more old new s name kind m f h formed names folders named fresh keeps = record {
   names = names ∙ (λ i. h.names i ++ here i ∷ []) ∙ sym (numbered_push 1 s.names name);
   formed = subst AreNamed (sym names) (All-push (λ x. is_name_or_empty x.name ≡ true) old.names.items m h.formed (subst (λ (x : MemberName). is_name_or_empty x.name ≡ true) (sym named) formed));
-  machines = subst (λ ms. MachinesStand ms (with_name s name kind)) (sym machines) (machines_more (machines_of old) s name kind h.machines (subst IsInOrder machine order));
+  machines = subst (λ ms. MachinesStand ms (with_name s name kind)) (sym machines) (machines_more (machines_of old) s name kind h.machines (subst IsSoundMachine machine keeps));
 }
   where
     long : length old.names.items ≡ length s.names

@@ -11,7 +11,7 @@ use Rattle.folder_core.specs.declared.event.Event.{Event}
 use Rattle.folder_core.specs.declared.reply.Reply.{Reply}
 use Rattle.folder_core.specs.Machine.{Machine}
 use Rattle.folder_core.specs.Answers.{Answers}
-use Rattle.folder_core.specs.Sound.{IsInOrder}
+use Rattle.folder_core.specs.Sound.{IsSound as IsSoundMachine}
 use Rattle.script_engine.specs.declared.consumed.Consumed.{Consumed}
 use Rattle.script_engine.specs.declared.engine.Engine.{Engine}
 use Rattle.script_engine.specs.declared.refusal.Refusal.{Refusal}
@@ -62,7 +62,7 @@ pub record Answered (at : ℕ) (event : Event) (reply : Reply) (old new : Engine
   pub after : Machine
   pub found : slice_get (machines_of old) at ≡ Some before
   pub answers : Answers place before event reply after
-  pub order : IsInOrder after
+  pub sound : IsSoundMachine after
   pub machines : machines_of new ≡ slice_set (machines_of old) at after
 
 -- a local operation is done and got this USN, or is refused

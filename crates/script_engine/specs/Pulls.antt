@@ -1,18 +1,21 @@
 -- What the parts of a pull do.
-use Rattle.std.specs.Prelude.{◌≡◌, ◌⊎◌, not, ℕ, Bool, true, false, List, Some, None, Result, Ok, Err, filter}
+use Rattle.std.specs.Prelude.{◌≡◌, ◌⊎◌, not, ℕ, Bool, true, false, List, Option, Some, None, Result, Ok, Err, filter}
 use Rattle.frs_base.specs.Options.{In}
 use Rattle.frs_base.specs.Versions.{gvsn_lt}
 use Rattle.frs_base.specs.declared.version.Uid.{Uid}
+use Rattle.marshal_form.specs.Local.{IsLocalForm}
 use Rattle.version_vector.specs.Versions.{covers}
 use Rattle.version_vector.specs.declared.interval.Interval.{Interval}
 use Rattle.win_order.specs.declared.update.Update.{Update}
 use Rattle.record_db.specs.Lists.{Lists}
 use Rattle.record_db.specs.Records.{Covered, IsHeldOrBeaten, Versions}
+use Rattle.name_rules.specs.Tree.{is_file}
 use Rattle.pinned_pages.specs.declared.pinned.Pinned.{Pinned}
 use Rattle.world_model.specs.World.{World, IsRecordOf}
 use Rattle.world_model.specs.Events.{IsAllHeld, IsOfFile, IsOfPage, WasSentVector}
 use Rattle.world_model.specs.Rounds.{IsWanted}
 use Rattle.world_model.specs.Runs.{Grows}
+use Rattle.folder_core.specs.Notes.{form_sum}
 use Rattle.script_engine.specs.declared.engine.pulling.Fetched.{Fetched}
 use Rattle.script_engine.specs.declared.engine.pulling.Paged.{Paged}
 use Rattle.script_engine.specs.declared.engine.Engine.{Engine}
@@ -52,6 +55,10 @@ abbrev pub Took : World → ℕ → ℕ → Update → Result (Unit {0}) Refusal
 Took w puller server u (Ok done) new = Takes w puller server u new
 Took w puller server u (Err why) new = (count : ℕ) × IsTooMuch w puller u count × (why ≡ VectorFull count) × (new ≡ w)
 
+-- the form that comes with a present file has its hash, and is one of a local file
+abbrev pub HasForm : Update → Option (List ℕ) → Type 0
+HasForm u given = is_file u ≡ true → (form : List ℕ) × (contents : List ℕ) × (given ≡ Some form) × (form_sum form ≡ u.hash) × IsLocalForm form contents
+
 -- an engine that stands for a scene in which it can be taken
 abbrev pub MayTake : Engine → ℕ → ℕ → Update → Type 0
 MayTake e puller server u = (s : Scene) × Stands e s × CanTake s.world puller server u
@@ -85,9 +92,9 @@ AreCovered w server files = (u : Update) → In u files → Covered w.all (w.at 
 abbrev pub MayFetch : Engine → ℕ → List Update → Type 0
 MayFetch e server files = (s : Scene) × Stands e s × AreCovered s.world server files
 
--- the server's record of a file, or the USN of what it has to consume first
+-- the server's record of a file with its form, or the USN of what it has to consume first
 abbrev pub FetchedFrom : World → ℕ → Uid → Result Fetched ℕ → Type 0
-FetchedFrom w server uid (Ok found) = (found.update.uid ≡ uid) × IsOfFile w server found.update
+FetchedFrom w server uid (Ok found) = (found.update.uid ≡ uid) × IsOfFile w server found.update × HasForm found.update found.form
 FetchedFrom w server uid (Err usn) = IsLastPending w server uid usn
 
 -- the listed files are taken, or one is refused

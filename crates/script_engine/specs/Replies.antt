@@ -21,6 +21,8 @@ local_refusal (why.OwnAhead version) = None
 local_refusal (why.KindDiffers held) = None
 local_refusal (why.Beaten held) = None
 local_refusal (why.Doubled gvsn) = None
+local_refusal (why.MarshalBad at) = None
+local_refusal (why.HashDiffers want got) = None
 local_refusal (why.Unheld uid) = None
 local_refusal (why.VectorFull count) = None
 
@@ -33,6 +35,8 @@ full_refusal (why.OwnAhead version) = None
 full_refusal (why.KindDiffers held) = None
 full_refusal (why.Beaten held) = None
 full_refusal (why.Doubled gvsn) = None
+full_refusal (why.MarshalBad at) = None
+full_refusal (why.HashDiffers want got) = None
 full_refusal (why.Unheld uid) = None
 full_refusal (why.VectorFull count) = Some (Err (VectorFull count))
 

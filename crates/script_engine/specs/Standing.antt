@@ -1,23 +1,27 @@
 -- Which scene an engine stands for.
-use Rattle.std.specs.Prelude.{◌≡◌, ◌<◌, ◌≤◌, ◌+◌, ◌-◌, ◌^◌, ℕ, List, Some, length, slice_get, sum_by}
+use Rattle.std.specs.Prelude.{◌≡◌, ◌<◌, ◌≤◌, ◌+◌, ◌-◌, ◌^◌, ℕ, List, Option, Some, length, option_map, slice_get, sum_by}
 use Rattle.frs_base.specs.Identifiers.{content_set, database_of}
 use Rattle.frs_base.specs.Options.{In}
+use Rattle.frs_base.specs.declared.version.Uid.{Uid}
 use Rattle.win_order.specs.declared.update.Update.{Update}
 use Rattle.vol_state.specs.Maps.{Stands as StandsForMaps}
 use Rattle.record_db.specs.Standing.{StandsFor}
 use Rattle.world_model.specs.World.{Member}
 use Rattle.folder_core.specs.Machine.{Machine}
-use Rattle.folder_core.specs.Sound.{IsInOrder}
+use Rattle.folder_core.specs.Notes.{form_sum}
+use Rattle.folder_core.specs.Sound.{IsSound as IsSoundMachine}
 use Rattle.script_engine.specs.Scene.{Scene}
 use Rattle.script_engine.specs.Sound.{IsSoundScene}
 
--- a machine stands for the member of this database: its records are Winners(Covered(All, K)), its vector covers K, its lists are those of the volume
+-- a machine stands for the member of this database: its records are Winners(Covered(All, K)), its vector covers K, its lists are those of the volume, the sums of its staged forms are those staged
 pub record MachineStands (all : List Update) (x : Member) (d : ℕ) (m : Machine) : Type 0 where
-  pub order : IsInOrder m
+  pub sound : IsSoundMachine m
   pub own : m.book.own ≡ d
   pub set : m.book.set ≡ content_set
   pub kind : m.book.kind ≡ x.kind
-  pub book : StandsFor all x.known x.consumed x.phase m.book
+  pub forms : Uid → Option (List ℕ)
+  pub book : StandsFor all x.known x.consumed x.phase forms m.book
+  pub staged : (uid : Uid) → x.staged uid ≡ option_map form_sum (forms uid)
   pub volume : StandsForMaps m.volume x.volume
 
 -- updates of the content set, none of them compressed

@@ -9,6 +9,7 @@ use crate::records::vector_text;
 use frs_base::{Bytes, Gvsn, MemberKind, Name, Sum, Uid, content_set, database_of};
 use record_db::Book;
 use std::alloc::{AllocError, Global};
+use std::process::Abort;
 use std::test::Fail;
 use version_vector::Interval;
 use vol_state::{Refused, VolCmd, Volume};
@@ -53,14 +54,34 @@ fn command(alloc: Global, row: &str) -> Result<VolCmd, Fail> {
     })
 }
 
-/// A volume after the commands of these rows.
-fn volume_of(alloc: Global, rows: &str) -> Result<Volume, Fail> {
-    let mut volume = Volume::new(database_of(1));
+// What owns a volume or a book lends it to one function: each early return past one that is owned
+// makes a proof much longer.
+
+/// Does the commands of these rows.
+fn fill_volume(alloc: Global, volume: &mut Volume, rows: &str) -> Result<(), Fail> {
     for row in rows.lines() {
         let ready = volume.ready(alloc, command(alloc, row)?)?;
         volume.take(ready);
     }
-    Ok(volume)
+    Ok(())
+}
+
+/// Does the commands of these rows, and answers the tree.
+fn filled_tree(alloc: Global, volume: &mut Volume, rows: &str) -> Result<String, Fail> {
+    fill_volume(alloc, volume, rows)?;
+    Ok(tree_text(alloc, volume)?)
+}
+
+/// Does the commands of these rows, and answers the sums.
+fn filled_sums(alloc: Global, volume: &mut Volume, rows: &str) -> Result<String, Fail> {
+    fill_volume(alloc, volume, rows)?;
+    Ok(sums_text(alloc, volume)?)
+}
+
+/// The tree of a volume after these rows.
+fn tree_after(alloc: Global, rows: &str) -> Result<String, Fail> {
+    let mut volume = Volume::new(database_of(1));
+    filled_tree(alloc, &mut volume, rows)
 }
 
 /// The rows of a volume, and its tree.
@@ -93,10 +114,29 @@ const TREES: [(&str, &str); 7] = [
 #[test]
 fn trees_print_in_order_of_their_paths(rt: HostRuntime) -> Result<(), Fail> {
     for (rows, want) in TREES {
-        let volume = volume_of(rt.alloc(), rows)?;
-        assert_eq!(rt; tree_text(rt.alloc(), &volume)?.as_str(), want);
+        assert_eq!(rt; tree_after(rt.alloc(), rows)?.as_str(), want);
     }
     Ok(())
+}
+
+/// The sums of a volume after these rows.
+fn sums_after(alloc: Global, rows: &str) -> Result<String, Fail> {
+    let mut volume = Volume::new(database_of(1));
+    filled_sums(alloc, &mut volume, rows)
+}
+
+/// The paths of sums, a line each, where each sum has 40 digits.
+fn paths_in(alloc: Global, text: &str) -> Result<String, Fail> {
+    let mut paths = String::new(alloc);
+    for line in text.lines() {
+        let (digits, path) = line.split_once(' ').ok_or("no path")?;
+        if digits.len() != 40 {
+            return Err("a sum of another length")?;
+        }
+        paths.push_str(path)?;
+        paths.push('\n')?;
+    }
+    Ok(paths)
 }
 
 /// The rows of a volume, and the paths of its files, in order of the lists of names.
@@ -112,16 +152,8 @@ const FILES: [(&str, &str); 3] = [
 #[test]
 fn sums_print_files_in_order_of_their_paths(rt: HostRuntime) -> Result<(), Fail> {
     for (rows, want) in FILES {
-        let volume = volume_of(rt.alloc(), rows)?;
-        let text = sums_text(rt.alloc(), &volume)?;
-        let mut paths = String::new(rt.alloc());
-        for line in text.lines() {
-            let (digits, path) = line.split_once(' ').ok_or("no path")?;
-            assert_eq!(rt; digits.len(), 40);
-            paths.push_str(path)?;
-            paths.push('\n')?;
-        }
-        assert_eq!(rt; paths.as_str(), want);
+        let text = sums_after(rt.alloc(), rows)?;
+        assert_eq!(rt; paths_in(rt.alloc(), text.as_str())?.as_str(), want);
     }
     Ok(())
 }
@@ -129,21 +161,35 @@ fn sums_print_files_in_order_of_their_paths(rt: HostRuntime) -> Result<(), Fail>
 #[test]
 fn sums_of_no_files(rt: HostRuntime) -> Result<(), Fail> {
     for rows in ["", "dir 0 d", "dir 0 d\nfile 1 x 1\npark 1"] {
-        let volume = volume_of(rt.alloc(), rows)?;
-        assert_eq!(rt; sums_text(rt.alloc(), &volume)?.as_str(), "sums empty\n");
+        assert_eq!(rt; sums_after(rt.alloc(), rows)?.as_str(), "sums empty\n");
     }
+    Ok(())
+}
+
+/// The second of two rows has this name as the second of its path, and the object 2.
+fn is_second(rows: &[TreeRow], name: &Name) -> bool {
+    let [_, row] = rows else {
+        return false;
+    };
+    let [_, own] = row.path() else {
+        return false;
+    };
+    **own == *name && row.object().fid == 2
+}
+
+/// Makes a directory and a file in it, and looks at the rows of both.
+fn look_at_rows(rt: &impl Abort, alloc: Global, volume: &mut Volume) -> Result<(), Fail> {
+    let name = name_of(alloc, "b")?;
+    fill_volume(alloc, volume, "dir 0 a\nfile 1 b 12")?;
+    let rows = tree_rows(alloc, volume)?;
+    assert!(rt; is_second(&rows, &name));
     Ok(())
 }
 
 #[test]
 fn rows_have_paths_and_objects(rt: HostRuntime) -> Result<(), Fail> {
-    let volume = volume_of(rt.alloc(), "dir 0 a\nfile 1 b 12")?;
-    let rows = tree_rows(rt.alloc(), &volume)?;
-    assert_eq!(rt; rows.len(), 2);
-    assert_eq!(rt; rows[1].path().len(), 2);
-    assert!(rt; *rows[1].path()[1] == name_of(rt.alloc(), "b")?);
-    assert_eq!(rt; rows[1].object().fid, 2);
-    Ok(())
+    let mut volume = Volume::new(database_of(1));
+    look_at_rows(&rt, rt.alloc(), &mut volume)
 }
 
 fn uid(member: u64, version: u64) -> Uid {
@@ -187,24 +233,42 @@ fn file(alloc: Global, uid: Uid, gvsn: Gvsn, name: &str) -> Result<Update, Fail>
     })
 }
 
-/// A book with a file, a directory, a file in it, and a directory that is gone.
-fn book(alloc: Global) -> Result<Book, Fail> {
-    let mut book = Book::new(MemberKind::Plain, database_of(2), content_set());
-    book.adopt(alloc, file(alloc, uid(1, 9), gvsn(2, 11), "x")?)?;
-    let mut directory = file(alloc, uid(1, 10), gvsn(1, 10), "d")?;
+/// A present directory at the root.
+fn directory(alloc: Global, uid: Uid, gvsn: Gvsn, name: &str) -> Result<Update, Fail> {
+    let mut directory = file(alloc, uid, gvsn, name)?;
     directory.attributes = 0x10;
-    book.adopt(alloc, directory)?;
+    Ok(directory)
+}
+
+/// A present file in a directory.
+fn inner(alloc: Global) -> Result<Update, Fail> {
     let mut inner = file(alloc, uid(2, 12), gvsn(2, 12), "y!")?;
     inner.parent = uid(1, 10);
-    book.adopt(alloc, inner)?;
-    let mut gone = file(alloc, uid(1, 11), gvsn(1, 13), "e")?;
-    gone.attributes = 0x10;
+    Ok(inner)
+}
+
+/// A directory that is gone.
+fn gone(alloc: Global) -> Result<Update, Fail> {
+    let mut gone = directory(alloc, uid(1, 11), gvsn(1, 13), "e")?;
     gone.present = false;
     gone.fence = 2;
     gone.clock = 12;
     gone.created = 10;
-    book.adopt(alloc, gone)?;
-    Ok(book)
+    Ok(gone)
+}
+
+/// Adopts a file, a directory, a file in it, and a directory that is gone.
+fn fill(alloc: Global, book: &mut Book) -> Result<(), Fail> {
+    book.adopt(alloc, file(alloc, uid(1, 9), gvsn(2, 11), "x")?, None)?;
+    book.adopt(alloc, directory(alloc, uid(1, 10), gvsn(1, 10), "d")?, None)?;
+    book.adopt(alloc, inner(alloc)?, None)?;
+    book.adopt(alloc, gone(alloc)?, None)?;
+    Ok(())
+}
+
+/// A book with no records.
+fn book() -> Book {
+    Book::new(MemberKind::Plain, database_of(2), content_set())
 }
 
 /// The first two members, `a` and `b`.
@@ -223,10 +287,16 @@ fn names(alloc: Global) -> Result<Vec<MemberName>, AllocError>
     Ok(names)
 }
 
+/// The records of the four.
+fn filled_records(alloc: Global, book: &mut Book) -> Result<String, Fail> {
+    fill(alloc, book)?;
+    let names = names(alloc)?;
+    Ok(records_text(alloc, &names, book)?)
+}
+
 #[test]
 fn records_print_in_order_of_their_uids(rt: HostRuntime) -> Result<(), Fail> {
-    let names = names(rt.alloc())?;
-    let text = records_text(rt.alloc(), &names, &book(rt.alloc())?)?;
+    let text = filled_records(rt.alloc(), &mut book())?;
     assert_eq!(rt;
         text.as_str(),
         "a:9 b:11 f live root x 3 201 100\n\
@@ -259,21 +329,46 @@ fn vectors_print_their_intervals(rt: HostRuntime) -> Result<(), Fail> {
     Ok(())
 }
 
+/// The counts of a book and of rows.
+fn counts(alloc: Global, book: &Book, rows: &[TreeRow]) -> Result<String, Fail> {
+    let intervals = book.vector().intervals();
+    Ok(count_text(alloc, book.records(), rows, intervals)?)
+}
+
+/// The counts of a book with the four and of a volume after these rows.
+fn filled_counts(
+    alloc: Global,
+    book: &mut Book,
+    volume: &mut Volume,
+    rows: &str,
+) -> Result<String, Fail> {
+    fill(alloc, book)?;
+    fill_volume(alloc, volume, rows)?;
+    let rows = tree_rows(alloc, volume)?;
+    counts(alloc, book, &rows)
+}
+
+/// The same from nothing.
+fn counts_after(alloc: Global, rows: &str) -> Result<String, Fail> {
+    let mut volume = Volume::new(database_of(1));
+    filled_counts(alloc, &mut book(), &mut volume, rows)
+}
+
 #[test]
 fn counts_leave_out_tombstones_and_directories(rt: HostRuntime) -> Result<(), Fail> {
-    let book = book(rt.alloc())?;
-    let volume = volume_of(
-        rt.alloc(),
-        "dir 0 a\nfile 1 b 12\nfile 0 c 1\nfile 0 l 1\npark 4",
-    )?;
-    let rows = tree_rows(rt.alloc(), &volume)?;
-    let text = count_text(rt.alloc(), book.records(), &rows, book.vector().intervals())?;
+    let rows = "dir 0 a\nfile 1 b 12\nfile 0 c 1\nfile 0 l 1\npark 4";
+    let text = counts_after(rt.alloc(), rows)?;
     assert_eq!(rt; text.as_str(), "records 4 live 3 files 2 intervals 3\n");
     Ok(())
 }
 
-#[test]
-fn refusals_print_their_numbers_and_values(rt: HostRuntime) -> Result<(), Fail> {
+/// What a refused local operation prints.
+fn local(alloc: Global, why: Refused) -> Result<String, AllocError> {
+    refusal_text(alloc, &Refusal::Local { why })
+}
+
+/// Tries each refusal of a local operation.
+fn try_local(rt: &impl Abort, alloc: Global) -> Result<(), Fail> {
     for (why, want) in [
         (
             Refused::TooLarge { length: 1_048_577 },
@@ -285,41 +380,68 @@ fn refusals_print_their_numbers_and_values(rt: HostRuntime) -> Result<(), Fail> 
         (Refused::NameTaken, "refused 8 taken\n"),
         (Refused::Looped, "refused 9 loop\n"),
     ] {
-        let text = refusal_text(rt.alloc(), &Refusal::Local { why })?;
-        assert_eq!(rt; text.as_str(), want);
+        assert_eq!(rt; local(alloc, why)?.as_str(), want);
     }
-    let own = refusal_text(rt.alloc(), &Refusal::Itself)?;
-    assert_eq!(rt; own.as_str(), "refused 18 self\n");
-    let early = refusal_text(rt.alloc(), &Refusal::NotYet { usn: 11 })?;
-    assert_eq!(rt; early.as_str(), "refused 12 notyet 11\n");
-    let full = refusal_text(rt.alloc(), &Refusal::VectorFull { count: 65_537 })?;
-    assert_eq!(rt; full.as_str(), "refused 20 vectorfull 65537\n");
     Ok(())
+}
+
+/// Refusals that name no member: of a member itself, of an early one, and of a full vector.
+fn other_refusals(alloc: Global) -> Result<String, AllocError> {
+    let own = refusal_text(alloc, &Refusal::Itself)?;
+    let early = refusal_text(alloc, &Refusal::NotYet { usn: 11 })?;
+    let full = refusal_text(alloc, &Refusal::VectorFull { count: 65_537 })?;
+    format!(in alloc; "{own}|{early}|{full}")
+}
+
+#[test]
+fn refusals_print_their_numbers_and_values(rt: HostRuntime) -> Result<(), Fail> {
+    try_local(&rt, rt.alloc())?;
+    let others = other_refusals(rt.alloc())?;
+    assert_eq!(rt;
+        others.as_str(),
+        "refused 18 self\n|refused 12 notyet 11\n|refused 20 vectorfull 65537\n"
+    );
+    Ok(())
+}
+
+/// What a line prints in place of a refusal.
+fn plain_texts(alloc: Global) -> Result<String, AllocError> {
+    let ok = ok_text(alloc)?;
+    let usn = usn_text(alloc, 9)?;
+    let pulled = pulled_text(alloc, 0)?;
+    format!(in alloc; "{ok}|{usn}|{pulled}")
+}
+
+/// What a consumed journal record of a member prints.
+fn last_texts(alloc: Global) -> Result<String, AllocError> {
+    let name = "abc".as_bytes();
+    let none = last_text(alloc, name, None)?;
+    let made = last_text(alloc, name, Some(Consumed::Made { usn: 9 }))?;
+    let skipped = last_text(alloc, name, Some(Consumed::Skipped { usn: 10 }))?;
+    format!(in alloc; "{none}|{made}|{skipped}")
+}
+
+/// What a name prints that no member has.
+fn unknown(alloc: Global) -> Result<String, Fail> {
+    let name = bytes_of(alloc, "abc")?;
+    Ok(refusal_text(alloc, &Refusal::Unknown { name })?)
+}
+
+/// What a name prints that a member has.
+fn taken(alloc: Global) -> Result<String, Fail> {
+    let name = bytes_of(alloc, "abc")?;
+    Ok(refusal_text(alloc, &Refusal::Exists { name })?)
 }
 
 #[test]
 fn lines_print_what_they_did(rt: HostRuntime) -> Result<(), Fail> {
     let alloc = rt.alloc();
-    assert_eq!(rt; ok_text(alloc)?.as_str(), "ok\n");
-    assert_eq!(rt; usn_text(alloc, 9)?.as_str(), "usn 9\n");
-    assert_eq!(rt; pulled_text(alloc, 0)?.as_str(), "pulled 0\n");
-    let name = "abc".as_bytes();
-    for (last, want) in [
-        (None, "nothing\n"),
-        (Some(Consumed::Made { usn: 9 }), "update abc:9\n"),
-        (Some(Consumed::Skipped { usn: 10 }), "skip abc:10\n"),
-    ] {
-        assert_eq!(rt; last_text(alloc, name, last)?.as_str(), want);
-    }
-    let unknown = Refusal::Unknown {
-        name: bytes_of(alloc, "abc")?,
-    };
-    let text = refusal_text(alloc, &unknown)?;
-    assert_eq!(rt; text.as_str(), "refused 1 unknown abc\n");
-    let there = Refusal::Exists {
-        name: bytes_of(alloc, "abc")?,
-    };
-    let text = refusal_text(alloc, &there)?;
-    assert_eq!(rt; text.as_str(), "refused 2 exists abc\n");
+    assert_eq!(rt; plain_texts(alloc)?.as_str(), "ok\n|usn 9\n|pulled 0\n");
+    assert_eq!(rt;
+        last_texts(alloc)?.as_str(),
+        "nothing\n|update abc:9\n|skip abc:10\n"
+    );
+    assert_eq!(rt; unknown(alloc)?.as_str(), "refused 1 unknown abc\n");
+    assert_eq!(rt; taken(alloc)?.as_str(), "refused 2 exists abc\n");
     Ok(())
 }

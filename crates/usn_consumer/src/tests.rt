@@ -166,7 +166,7 @@ fn book_of(
         book.finish(alloc, &Vector::empty())?;
     }
     if held != "none" {
-        book.adopt(alloc, record_of(alloc, held)?)?;
+        book.adopt(alloc, record_of(alloc, held)?, None)?;
     }
     Ok(book)
 }

@@ -180,23 +180,40 @@ fn try_rows(rt: &impl Abort, alloc: Global, volume: &mut Volume, rows: &str) -> 
     Ok(())
 }
 
-#[test]
-fn a_table_of_operations_and_refusals(rt: HostRuntime) -> Result<(), Fail> {
-    let alloc = rt.alloc();
-    let mut volume = Volume::new(database_of(1));
-    try_rows(&rt, alloc, &mut volume, AT_THE_ROOT)?;
-    try_rows(&rt, alloc, &mut volume, IN_A_DIRECTORY)?;
-    try_rows(&rt, alloc, &mut volume, FROM_AND_TO)?;
-    try_rows(&rt, alloc, &mut volume, ONTO_AND_BENEATH)?;
-    try_rows(&rt, alloc, &mut volume, AFTER_MOVES)?;
-    let objects = volume.objects();
-    assert_eq!(rt; objects.len(), 3);
-    assert!(rt; is_file_of(&objects[0], 0, &name_of(alloc, "b")?, b"22"));
-    assert!(rt; objects[1].kind == Kind::Directory && objects[1].fid == 2);
-    assert!(rt; is_file_of(&objects[2], 2, &name_of(alloc, "X")?, b"3"));
+/// A file `b` at the root, a directory with the number 2, and a file `X` in it.
+fn are_left(alloc: Global, volume: &Volume) -> Result<bool, Fail> {
+    let (b, x) = (name_of(alloc, "b")?, name_of(alloc, "X")?);
+    let [first, directory, last] = volume.objects() else {
+        return Ok(false);
+    };
+    Ok(
+        is_file_of(first, 0, &b, b"22")
+            && directory.kind == Kind::Directory
+            && directory.fid == 2
+            && is_file_of(last, 2, &x, b"3"),
+    )
+}
+
+/// Tries all rows of operations, and looks at what they left.
+fn try_table(rt: &impl Abort, alloc: Global, volume: &mut Volume) -> Result<(), Fail> {
+    try_rows(rt, alloc, volume, AT_THE_ROOT)?;
+    try_rows(rt, alloc, volume, IN_A_DIRECTORY)?;
+    try_rows(rt, alloc, volume, FROM_AND_TO)?;
+    try_rows(rt, alloc, volume, ONTO_AND_BENEATH)?;
+    try_rows(rt, alloc, volume, AFTER_MOVES)?;
+    assert!(rt; are_left(alloc, volume)?);
     // Fifteen rows were done, from USN 9 on.
     assert_eq!(rt; volume.next_usn(), 24);
     Ok(())
+}
+
+// A test that owns a volume lends it to one function: each early return past an owned volume makes
+// the proof of the test much longer.
+
+#[test]
+fn a_table_of_operations_and_refusals(rt: HostRuntime) -> Result<(), Fail> {
+    let mut volume = Volume::new(database_of(1));
+    try_table(&rt, rt.alloc(), &mut volume)
 }
 
 /// What `sha1sum` says of the form of a file with the contents `hi`.
@@ -225,53 +242,91 @@ fn sum_at(volume: &Volume, fid: u64) -> Option<Sum> {
     }
 }
 
+/// Makes files and a directory, and looks at their sums.
+fn try_sums(rt: &impl Abort, alloc: Global, volume: &mut Volume) -> Result<(), Fail> {
+    try_rows(rt, alloc, volume, FOR_THEIR_SUMS)?;
+    assert!(rt; sum_at(volume, 1) == Some(HI_SUM));
+    assert!(rt; sum_at(volume, 2) == Some(EMPTY_SUM));
+    assert!(rt; sum_at(volume, 3) == Some(Sum([0; 20])));
+    Ok(())
+}
+
 #[test]
 fn files_have_the_sums_of_their_forms(rt: HostRuntime) -> Result<(), Fail> {
-    let alloc = rt.alloc();
     let mut volume = Volume::new(database_of(1));
-    try_rows(&rt, alloc, &mut volume, FOR_THEIR_SUMS)?;
-    assert!(rt; sum_at(&volume, 1) == Some(HI_SUM));
-    assert!(rt; sum_at(&volume, 2) == Some(EMPTY_SUM));
-    assert!(rt; sum_at(&volume, 3) == Some(Sum([0; 20])));
+    try_sums(&rt, rt.alloc(), &mut volume)
+}
+
+/// Puts this many bytes, or says why that is refused.
+fn put_sized(
+    alloc: Global,
+    volume: &mut Volume,
+    text: &str,
+    count: usize,
+) -> Result<Option<Refused>, Fail> {
+    let bytes = Bytes::of(vec![in alloc; 7; count]?);
+    let path = path_of(alloc, text)?;
+    done(alloc, volume, LocalOp::Put { path, bytes })
+}
+
+/// Puts as many bytes as a file may have, and then one more, wherever the path leads.
+fn try_sizes(rt: &impl Abort, alloc: Global, volume: &mut Volume) -> Result<(), Fail> {
+    let most = put_sized(alloc, volume, "a", 1_048_576)?;
+    assert_eq!(rt; most, None);
+    for text in ["a", "", "q/a", "a/a"] {
+        let more = put_sized(alloc, volume, text, 1_048_577)?;
+        assert_eq!(rt; more, Some(Refused::TooLarge { length: 1_048_577 }));
+    }
     Ok(())
 }
 
 #[test]
 fn contents_may_have_1_048_576_bytes(rt: HostRuntime) -> Result<(), Fail> {
-    let alloc = rt.alloc();
     let mut volume = Volume::new(database_of(1));
-    let most = Bytes::of(vec![in alloc; 7; 1_048_576]?);
-    let path = path_of(alloc, "a")?;
-    let op = LocalOp::Put { path, bytes: most };
-    assert_eq!(rt; done(alloc, &mut volume, op)?, None);
-    for text in ["a", "", "q/a", "a/a"] {
-        let more = Bytes::of(vec![in alloc; 7; 1_048_577]?);
-        let path = path_of(alloc, text)?;
-        let op = LocalOp::Put { path, bytes: more };
-        assert_eq!(rt;
-            done(alloc, &mut volume, op)?,
-            Some(Refused::TooLarge { length: 1_048_577 })
-        );
+    try_sizes(&rt, rt.alloc(), &mut volume)
+}
+
+/// Does the operation of a row, or says why it is refused.
+fn tried(
+    alloc: Global,
+    volume: &mut Volume,
+    word: &str,
+    from: &str,
+    to: &str,
+) -> Result<Option<Refused>, Fail> {
+    done(alloc, volume, operation(alloc, word, from, to)?)
+}
+
+/// Makes a directory in a directory, 63 deep, and answers the path of one more.
+fn nest(rt: &impl Abort, alloc: Global, volume: &mut Volume) -> Result<String, Fail> {
+    let mut text = String::from_str(alloc, "d")?;
+    for _ in 0..63 {
+        assert_eq!(rt; tried(alloc, volume, "mkdir", text.as_str(), "")?, None);
+        text.push_str("/d")?;
     }
+    Ok(text)
+}
+
+/// Puts a file at this path, and moves the first directory there.
+fn try_deep(rt: &impl Abort, alloc: Global, volume: &mut Volume, deep: &str) -> Result<(), Fail> {
+    let put = tried(alloc, volume, "put", deep, "deep")?;
+    assert_eq!(rt; put, None);
+    let moved = tried(alloc, volume, "move", "d", deep)?;
+    assert_eq!(rt; moved, Some(Refused::Looped));
+    assert_eq!(rt; volume.objects().len(), 64);
     Ok(())
+}
+
+/// Tries a path of 64 components.
+fn try_depth(rt: &impl Abort, alloc: Global, volume: &mut Volume) -> Result<(), Fail> {
+    let text = nest(rt, alloc, volume)?;
+    try_deep(rt, alloc, volume, text.as_str())
 }
 
 #[test]
 fn a_path_may_have_64_components(rt: HostRuntime) -> Result<(), Fail> {
-    let alloc = rt.alloc();
     let mut volume = Volume::new(database_of(1));
-    let mut text = String::from_str(alloc, "d")?;
-    for _ in 0..63 {
-        let op = operation(alloc, "mkdir", text.as_str(), "")?;
-        assert_eq!(rt; done(alloc, &mut volume, op)?, None);
-        text.push_str("/d")?;
-    }
-    let op = operation(alloc, "put", text.as_str(), "deep")?;
-    assert_eq!(rt; done(alloc, &mut volume, op)?, None);
-    let op = operation(alloc, "move", "d", text.as_str())?;
-    assert_eq!(rt; done(alloc, &mut volume, op)?, Some(Refused::Looped));
-    assert_eq!(rt; volume.objects().len(), 64);
-    Ok(())
+    try_depth(&rt, rt.alloc(), &mut volume)
 }
 
 #[test]

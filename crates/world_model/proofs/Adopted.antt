@@ -8,11 +8,12 @@ use Rattle.win_order.specs.declared.update.Update.{Update}
 use Rattle.vol_state.specs.declared.object.Object.{Object}
 use Rattle.vol_state.specs.State.{uid_of}
 use Rattle.record_db.specs.Records.{Has, Versions}
+use Rattle.record_db.specs.Staged.{with_uid}
 use Rattle.record_db.proofs.Keys.{uid_cases}
 use Rattle.name_rules.specs.Next.{IsPending}
 use Rattle.name_rules.specs.Tree.{is_file, kind_of}
 use Rattle.name_rules.proofs.Shown.{AreSame}
-use Rattle.world_model.specs.World.{Member, with_uid}
+use Rattle.world_model.specs.World.{Member}
 use Rattle.world_model.specs.Events.{adopted_by, unstaged_at}
 use Rattle.world_model.specs.Invariant.{HasSum, MemberIsSound}
 use Rattle.world_model.proofs.Changing.{uid_other, uid_same}

@@ -5,8 +5,8 @@ use Rattle.std.proofs.lemmas.Bool.Decides.{nat_tests}
 use Rattle.frs_base.specs.Versions.{same_uid}
 use Rattle.frs_base.specs.declared.version.Uid.{Uid}
 use Rattle.vol_state.specs.Maps.{with_at}
+use Rattle.record_db.specs.Staged.{with_uid}
 use Rattle.record_db.proofs.Keys.{same_uid_is, same_uid_refl}
-use Rattle.world_model.specs.World.{with_uid}
 
 if_true : {X : Type 0} (b : Bool) (x y : X) → b ≡ true → cond b x y ≡ x
 if_true true x y e = refl

@@ -17,13 +17,14 @@ use Rattle.vol_state.specs.Sums.{no_sum}
 use Rattle.vol_state.specs.Maps.{Maps}
 use Rattle.vol_state.specs.Tables.{IsReached}
 use Rattle.record_db.specs.Records.{Has}
+use Rattle.record_db.specs.Staged.{with_uid}
 use Rattle.record_db.proofs.Keys.{uid_cases}
 use Rattle.name_rules.specs.Next.{IsPending}
 use Rattle.name_rules.specs.Recorded.{is_deletion, object_update, recorded_by, recorded_of, tombstone}
 use Rattle.name_rules.specs.Tree.{is_file, kind_of}
 use Rattle.name_rules.proofs.Cases.{made_by}
 use Rattle.name_rules.proofs.Shown.{AreSame}
-use Rattle.world_model.specs.World.{Member, with_uid}
+use Rattle.world_model.specs.World.{Member}
 use Rattle.world_model.specs.Events.{consumed_by}
 use Rattle.world_model.specs.Invariant.{HasSum, JournalIsTrue, MemberIsSound, NumbersAreFresh}
 use Rattle.world_model.proofs.Changing.{uid_other, uid_same}

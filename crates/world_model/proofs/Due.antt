@@ -16,6 +16,7 @@ use Rattle.vol_state.specs.Conditions.{root_uid}
 use Rattle.vol_state.specs.Maps.{Maps, write}
 use Rattle.vol_state.specs.Tables.{IsAt, IsDirectory, IsEmpty, IsNew}
 use Rattle.record_db.specs.Records.{Covered, IsRecord}
+use Rattle.record_db.specs.Staged.{with_uid}
 use Rattle.record_db.proofs.Best.{best_one, best_same}
 use Rattle.record_db.proofs.Sets.{in_before, plus_old}
 use Rattle.record_db.proofs.Keys.{same_uid_is, uid_cases}
@@ -24,7 +25,7 @@ use Rattle.name_rules.specs.Tree.{IsShown, is_file, kind_of}
 use Rattle.name_rules.specs.Next.{IsInPlace, IsQuiet, Step as InstallStep}
 use Rattle.name_rules.proofs.Cases.{made_by}
 use Rattle.name_rules.proofs.Shown.{AreSame, same_back, shown_record, shown_same}
-use Rattle.world_model.specs.World.{Member, World, IsRecordOf, with_member, with_uid}
+use Rattle.world_model.specs.World.{Member, World, IsRecordOf, with_member}
 use Rattle.world_model.specs.Events.{Install, Records, Step, consumed_by, consumes, operated, unstaged_at}
 use Rattle.world_model.specs.Invariant.{Invariant, NumbersAreFresh, PlacesAreATree}
 use Rattle.world_model.specs.Due.{IsObject, Lowers, Sees, Tells, View, due}

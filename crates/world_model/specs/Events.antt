@@ -12,10 +12,11 @@ use Rattle.vol_state.specs.State.{uid_of}
 use Rattle.vol_state.specs.Maps.{with_at, write}
 use Rattle.vol_state.specs.Tables.{IsAt, IsLocal, IsReplica}
 use Rattle.record_db.specs.Records.{Versions, plus, both, Covered, IsRecord, IsHeld, IsBetter, IsHeldOrBeaten}
+use Rattle.record_db.specs.Staged.{with_uid}
 use Rattle.name_rules.specs.Recorded.{base_fence, recorded_of}
 use Rattle.name_rules.specs.Tree.{is_file}
 use Rattle.name_rules.specs.Next.{IsDue, IsPending, IsQuiet}
-use Rattle.world_model.specs.World.{Member, World, IsRecordOf, with_member, with_uid}
+use Rattle.world_model.specs.World.{Member, World, IsRecordOf, with_member}
 
 -- ---- what becomes of a member
 

@@ -1,6 +1,5 @@
 -- The members of a folder, all that they ever recorded, and all that they ever sent.
-use Rattle.std.specs.Prelude.{◌<◌, ◌≤◌, ℕ, false, List, [], Option, None, if◌then◌else◌}
-use Rattle.frs_base.specs.Versions.{same_uid}
+use Rattle.std.specs.Prelude.{◌<◌, ◌≤◌, ℕ, false, List, [], Option, None}
 use Rattle.frs_base.specs.declared.kind.MemberKind.{MemberKind}
 use Rattle.frs_base.specs.declared.kind.Phase.{Phase}
 use Rattle.frs_base.specs.declared.kind.Phase.TheVariants.{Initial}
@@ -52,10 +51,6 @@ abbrev pub IsConsumed : World → Gvsn → Type 0
 IsConsumed w g = (9 ≤ g.version) × (g.version < (w.at g.db).consumed)
 
 -- ---- changes
-
--- the map with another value at one file
-abbrev pub with_uid : {X : Type 0} → (Uid → X) → Uid → X → Uid → X
-with_uid f uid x other = if same_uid other uid then x else f other
 
 -- the world with another member of this database
 abbrev pub with_member : World → ℕ → Member → World

@@ -1,10 +1,10 @@
 // Taking a partner's update.
-ghost use Rattle.std.specs.Prelude.{◌≡◌, ◌<◌, ◌^◌, IfOk, OnErr, not, option_copied, option_map};
+ghost use Rattle.std.specs.Prelude.{◌≡◌, ◌<◌, ◌^◌, [], IfOk, OnErr, not, option_copied, option_map, unwrap_or};
 ghost use Rattle.frs_base.specs.Options.{kept_if};
 ghost use Rattle.win_order.specs.Order.{key_lt, key_of};
 ghost use Rattle.name_rules.specs.Tree.{kind_of};
 ghost use Rattle.folder_core.specs.declared.refusal.Refusal.TheVariants.{Beaten};
-ghost use Rattle.folder_core.specs.Adopt.{AnswersAdopt, adopt_refusal, beaten, doubled, kind_at, kind_differs, own_ahead, same_kind, unfit};
+ghost use Rattle.folder_core.specs.Adopt.{AnswersAdopt, ChecksForm, Stages, adopt_refusal, beaten, doubled, kind_at, kind_differs, own_ahead, same_kind, unfit};
 ghost use Rattle.folder_core.specs.Given.{IsNoted};
 ghost use Rattle.folder_core.specs.Machine.{is_ahead};
 ghost use Rattle.folder_core.specs.Sound.{IsSound};
@@ -12,7 +12,9 @@ ghost use Rattle.folder_core.specs.Sound.{IsSound};
 use super::Machine;
 use crate::answer::Answer;
 use crate::{Mark, Refusal, Reply};
-use frs_base::{Guid, Kind, Uid};
+use frs_base::{Bytes, Guid, Kind, Sum, Uid};
+use marshal_form::{sum, unmarshal_local};
+use name_rules::is_file;
 use record_db::BookCmd;
 use std::alloc::{AllocError, Global};
 use win_order::{Update, admit};
@@ -69,6 +71,50 @@ fn fits(update: &Update)
     ensures { update.now.gvsn.version < 2 ^ 64 }
 {
     let _ = version_of(update);
+}
+
+/// The bytes are the form of a local file, and have this sum.
+fn check_form(form: &[u8], want: Sum) -> Result<(), Refusal>
+    ensures { ChecksForm form.now want tt result }
+{
+    if let Err(bad) = unmarshal_local(form) {
+        let at = bad.at as u64;
+        return Err(Refusal::MarshalBad { at });
+    }
+    let got = Sum(sum(form));
+    if got == want {
+        Ok(())
+    } else {
+        Err(Refusal::HashDiffers { want, got })
+    }
+}
+
+/// The bytes of a form; no form is one of no bytes.
+fn bytes_of(alloc: Global, form: Option<Bytes>) -> Bytes
+    ensures { result ≡ unwrap_or form [] }
+{
+    match form {
+        None => Bytes::of(Vec::new(alloc)),
+        Some(form) => form,
+    }
+}
+
+/// What is staged with an update: a present file's form, unless it is refused, and nothing else's.
+fn staged_with(
+    alloc: Global,
+    update: &Update,
+    form: Option<Bytes>,
+) -> Result<Option<Bytes>, Refusal>
+    ensures { Stages update.now form result }
+{
+    if !is_file(update) {
+        return Ok(None);
+    }
+    let form = bytes_of(alloc, form);
+    match check_form(form.as_slice(), update.hash) {
+        Err(why) => Err(why),
+        Ok(()) => Ok(Some(form)),
+    }
 }
 
 impl Machine {
@@ -169,9 +215,14 @@ impl Machine {
         self.doubled(update)
     }
 
-    /// A partner's update is taken.
-    pub(crate) fn adopt(&mut self, alloc: Global, update: Update) -> Result<Answer, AllocError>
-        ensures answers { IfOk result (λ answer. AnswersAdopt update self.old answer.reply self.new) }
+    /// A partner's update is taken, with a form.
+    pub(crate) fn adopt(
+        &mut self,
+        alloc: Global,
+        update: Update,
+        form: Option<Bytes>,
+    ) -> Result<Answer, AllocError>
+        ensures answers { IfOk result (λ answer. AnswersAdopt update form self.old answer.reply self.new) }
         ensures noted { IfOk result (λ answer. IsNoted answer self.old self.new) }
         ensures err { OnErr result (self.new ≡ self.old) }
     {
@@ -179,7 +230,12 @@ impl Machine {
             return Ok(Answer::refused(&why));
         }
         fits(&update);
-        let cmd = BookCmd::Adopt { update };
-        self.widen(alloc, cmd, Reply::Adopted, Mark::Adopted)
+        match staged_with(alloc, &update, form) {
+            Err(why) => Ok(Answer::refused(&why)),
+            Ok(form) => {
+                let cmd = BookCmd::Adopt { update, form };
+                self.widen(alloc, cmd, Reply::Adopted, Mark::Adopted)
+            }
+        }
     }
 }

@@ -1,14 +1,18 @@
 // What a partner asks for.
-ghost use Rattle.std.specs.Prelude.{◌≡◌, IfOk};
+ghost use Rattle.std.specs.Prelude.{◌≡◌, if◌then◌else◌, IfOk, None};
+ghost use Rattle.name_rules.specs.Tree.{is_file};
 ghost use Rattle.folder_core.specs.Given.{IsNoted};
-ghost use Rattle.folder_core.specs.Serve.{AnswersFile, AnswersVector};
+ghost use Rattle.folder_core.specs.Serve.{AnswersFile, AnswersVector, file_answer, form_at};
 
 use super::Machine;
 use crate::answer::Answer;
 use crate::{FileMark, Mark, Reply};
-use frs_base::Uid;
-use pinned_pages::{FileAnswer, Pinned};
+use frs_base::{Bytes, Uid};
+use marshal_form::{LOCAL, marshal};
+use name_rules::is_file;
+use pinned_pages::{Body, FileAnswer, Pinned};
 use std::alloc::{AllocError, Global};
+use win_order::Update;
 
 impl Machine {
     /// What the member covers and its records, as of the entry at this place.
@@ -25,26 +29,56 @@ impl Machine {
         })
     }
 
+    /// The form of a file: the one that is staged, else that of its object.
+    fn form(&self, alloc: Global, uid: &Uid) -> Result<Option<Body>, AllocError>
+        ensures { IfOk result (λ body. body ≡ form_at self.now uid.now) }
+    {
+        if let Some(form) = self.book.form(*uid) {
+            let form = Vec::from_slice(alloc, form.as_slice())?;
+            return Ok(Some(Body::of(Bytes::of(form))));
+        }
+        match self.volume.object_of(*uid) {
+            None => Ok(None),
+            Some(object) => {
+                let form = marshal(alloc, LOCAL, object.bytes.as_slice())?;
+                Ok(Some(Body::of(Bytes::of(form))))
+            }
+        }
+    }
+
+    /// The form that is given with a file's record.
+    fn body(&self, alloc: Global, uid: &Uid, update: &Update) -> Result<Option<Body>, AllocError>
+        ensures { IfOk result (λ body. body ≡ (if is_file update.now then form_at self.now uid.now else None)) }
+    {
+        if is_file(update) {
+            self.form(alloc, uid)
+        } else {
+            Ok(None)
+        }
+    }
+
     /// What the member has of a file, as of the entry at this place.
+    fn found(&self, alloc: Global, at: u64, uid: &Uid) -> Result<FileAnswer, AllocError>
+        ensures { IfOk result (λ found. found ≡ file_answer at self.now uid.now) }
+    {
+        let Some(record) = self.book.held(*uid) else {
+            return Ok(FileAnswer::NoRecord);
+        };
+        if let Some(usn) = self.volume.pending_local(*uid, self.book.consumed()) {
+            return Ok(FileAnswer::NotYet { usn });
+        }
+        let body = self.body(alloc, uid, record)?;
+        let update = record.copy()?;
+        Ok(FileAnswer::Found { at, update, body })
+    }
+
+    /// A file is asked for.
     pub(crate) fn file(&self, alloc: Global, at: u64, uid: &Uid) -> Result<Answer, AllocError>
         ensures answers { IfOk result (λ answer. AnswersFile uid.now at self.now answer.reply self.now) }
         ensures noted { IfOk result (λ answer. IsNoted answer self.now self.now) }
     {
-        let (found, mark) = match self.book.held(*uid) {
-            None => (FileAnswer::NoRecord, FileMark::NoRecord),
-            Some(record) => {
-                if let Some(usn) = self.volume.pending_local(*uid, self.book.consumed()) {
-                    (FileAnswer::NotYet { usn }, FileMark::NotYet { usn })
-                } else {
-                    let update = record.copy()?;
-                    let copy = record.copy()?;
-                    (
-                        FileAnswer::Found { at, update },
-                        FileMark::Found { at, update: copy },
-                    )
-                }
-            }
-        };
+        let found = self.found(alloc, at, uid)?;
+        let mark = FileMark::of(&found)?;
         Ok(Answer {
             reply: Reply::File(found),
             mark: Mark::File(mark),

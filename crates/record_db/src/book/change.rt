@@ -4,13 +4,15 @@ ghost use Rattle.frs_base.specs.Options.{none_or};
 ghost use Rattle.frs_base.specs.Versions.{same_gvsn};
 ghost use Rattle.version_vector.specs.Versions.{IsCanonical};
 ghost use Rattle.record_db.specs.Lists.{put_any};
+ghost use Rattle.record_db.specs.Staged.{staged_by};
 ghost use Rattle.record_db.specs.State.{IsVector};
 ghost use Rattle.record_db.specs.Steps.{Changes, CoversAny, CoversMore, Fits, IsFull, IsStep, covered_after, in_set, is_allowed, own_version};
-ghost use Rattle.record_db.specs.declared.command.BookCmd.TheVariants.{RecordLocal, Adopt, Finish};
+ghost use Rattle.record_db.specs.declared.command.BookCmd.TheVariants.{RecordLocal, Adopt, Finish, Unstage};
 
 use crate::records::put_record;
+use crate::staged::{drop_form, put_form};
 use crate::{Book, BookCmd, Ready};
-use frs_base::{Gvsn, Phase};
+use frs_base::{Bytes, Gvsn, Phase, Uid};
 use std::alloc::Global;
 use version_vector::{Vector, VectorError};
 use win_order::Update;
@@ -42,8 +44,8 @@ impl Book {
     {
         match cmd {
             BookCmd::RecordLocal { usn, update } => { *usn < u64::MAX && self.is_own(*usn, update) }
-            BookCmd::Adopt { update } => update.gvsn.version < u64::MAX,
-            BookCmd::Finish { sent: _ } => true,
+            BookCmd::Adopt { update, form: _ } => update.gvsn.version < u64::MAX,
+            BookCmd::Finish { sent: _ } | BookCmd::Unstage { uid: _ } => true,
         }
     }
 
@@ -57,25 +59,29 @@ impl Book {
         let mut vector = self.vector().copy(alloc)?;
         match cmd {
             BookCmd::RecordLocal { usn, update: _ } => vector.add(alloc, self.own_version(*usn))?,
-            BookCmd::Adopt { update } => vector.add(alloc, update.gvsn)?,
+            BookCmd::Adopt { update, form: _ } => vector.add(alloc, update.gvsn)?,
             BookCmd::Finish { sent } => vector.merge(alloc, sent)?,
+            BookCmd::Unstage { uid: _ } => {}
         }
         Ok(vector)
     }
 
-    /// Takes a vector that covers more, and puts an update that it covers.
-    fn cover(&mut self, vector: Vector, update: Option<Update>)
+    /// Takes a vector that covers more, and puts an update that it covers, of whose file this form,
+    /// or nothing, is staged then.
+    fn cover(&mut self, vector: Vector, update: Option<Update>, form: Option<Bytes>)
         requires room { 0 < self.old.room }
+        requires staged_room { 0 < self.old.staged_room }
         requires canonical { IsCanonical vector }
         requires within { length vector ≤ 65_536 }
         requires wider { CoversMore self.old.state.vector vector }
         requires covered { CoversAny vector update }
-        ensures { self.new.state ≡ record self.old.state { records = put_any (option_map (in_set self.old.state.set) update) self.old.state.records; vector = vector } }
+        ensures { self.new.state ≡ record self.old.state { records = put_any (option_map (in_set self.old.state.set) update) self.old.state.records; vector = vector; staged = staged_by update form self.old.state.staged } }
     {
         self.vector = vector;
         if let Some(update) = update {
             let mut update = update;
             update.set = self.set;
+            put_form(&mut self.staged, update.uid, form);
             put_record(&mut self.records, update);
         }
     }
@@ -84,20 +90,22 @@ impl Book {
     fn change(&mut self, cmd: BookCmd, vector: Vector)
         requires allowed { is_allowed cmd self.old.state ≡ true }
         requires room { 0 < self.old.room }
+        requires staged_room { 0 < self.old.staged_room }
         requires vector { IsVector (covered_after cmd self.old.state) vector }
         requires within { length vector ≤ 65_536 }
         ensures { Changes cmd self.old.state self.new.state }
     {
         match cmd {
             BookCmd::RecordLocal { usn, update } => {
-                self.cover(vector, update);
+                self.cover(vector, update, None);
                 self.consumed = usn + 1;
             }
-            BookCmd::Adopt { update } => self.cover(vector, Some(update)),
+            BookCmd::Adopt { update, form } => self.cover(vector, Some(update), form),
             BookCmd::Finish { sent: _ } => {
-                self.cover(vector, None);
+                self.cover(vector, None, None);
                 self.phase = Phase::Normal;
             }
+            BookCmd::Unstage { uid } => self.unstage(uid),
         }
     }
 
@@ -115,6 +123,7 @@ impl Book {
             Vector::empty()
         };
         self.records.reserve_one(alloc)?;
+        self.staged.reserve_one(alloc)?;
         Ok(Ready { cmd, vector })
     }
 
@@ -147,14 +156,19 @@ impl Book {
         Ok(())
     }
 
-    /// Puts a partner's update in the place of the record of its file. After an error the state is
-    /// as it was.
-    pub fn adopt(&mut self, alloc: Global, update: Update) -> Result<(), VectorError>
-        ensures ok { OnOk result (IsStep (Adopt update) self.old.state self.new.state) }
-        ensures full { IfErr result (λ e. IsFull e (Adopt update) self.old.state) }
+    /// Puts a partner's update in the place of the record of its file, of which this form, or
+    /// nothing, is staged then. After an error the state is as it was.
+    pub fn adopt(
+        &mut self,
+        alloc: Global,
+        update: Update,
+        form: Option<Bytes>,
+    ) -> Result<(), VectorError>
+        ensures ok { OnOk result (IsStep (Adopt update form) self.old.state self.new.state) }
+        ensures full { IfErr result (λ e. IsFull e (Adopt update form) self.old.state) }
         ensures err { OnErr result (self.new.state ≡ self.old.state) }
     {
-        let ready = self.ready(alloc, BookCmd::Adopt { update })?;
+        let ready = self.ready(alloc, BookCmd::Adopt { update, form })?;
         self.take(ready);
         Ok(())
     }
@@ -170,5 +184,12 @@ impl Book {
         let ready = self.ready(alloc, BookCmd::Finish { sent })?;
         self.take(ready);
         Ok(())
+    }
+
+    /// What is staged of a file goes, if anything is.
+    pub fn unstage(&mut self, uid: Uid)
+        ensures { IsStep (Unstage uid) self.old.state self.new.state }
+    {
+        drop_form(&mut self.staged, &uid);
     }
 }

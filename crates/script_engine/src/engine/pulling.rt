@@ -1,9 +1,8 @@
 // Lines that bring a member what another one has.
-ghost use Rattle.std.specs.Prelude.{◌≡◌, ◌≢◌, ◌<◌, ◌≤◌, ◌^◌, ◌⊎◌, true, IfOk, OnErr, OnOk, length, string_bytes};
+ghost use Rattle.std.specs.Prelude.{◌≡◌, ◌≢◌, ◌<◌, ◌≤◌, ◌^◌, ◌⊎◌, true, IfOk, MatchOption, OnErr, OnOk, length, string_bytes};
 ghost use Rattle.std.specs.List.Sorted.{IsPermutation, IsSortedBy};
 ghost use Rattle.std.specs.Ordering.{is_lt};
 ghost use Rattle.frs_base.specs.Identifiers.{database_of};
-ghost use Rattle.name_rules.specs.Tree.{is_file};
 ghost use Rattle.record_db.specs.Records.{Covered, Versions};
 ghost use Rattle.world_model.specs.Events.{sends_vector};
 ghost use Rattle.world_model.specs.Rounds.{IsWanted};
@@ -14,9 +13,10 @@ use super::Engine;
 use crate::Refusal;
 use crate::lines::{pulled_text, refusal_text, unknown_text};
 use crate::replies::{file_of, pinned_of, taken_of};
-use folder_core::Event;
-use frs_base::{Guid, List, Uid};
-use pinned_pages::{FileAnswer, Pinned};
+use folder_core::{Event, files_have_forms};
+use frs_base::{Bytes, Guid, List};
+use name_rules::is_file;
+use pinned_pages::{Body, FileAnswer, Pinned};
 use std::alloc::{AllocError, Global};
 use std::cmp::Ordering;
 use version_vector::Vector;
@@ -29,11 +29,22 @@ pub(crate) struct Paged {
     taken: u64,
 }
 
-/// A file's record, as of an entry of its member's history.
+/// A file's record, as of an entry of its member's history, and the form of its contents.
 #[derive(Drop)]
 pub(crate) struct Fetched {
     at: u64,
     update: Update,
+    form: Option<Bytes>,
+}
+
+/// The bytes of a body, of which a number of 64 bits tells how many they are.
+fn form_of(body: Option<Body>) -> Option<Bytes>
+    ensures form { result ≡ body }
+    ensures length { MatchOption body (Unit {0}) (λ form. length form < 2 ^ 64) }
+{
+    let body = body?;
+    let _ = body.length();
+    Some(body.into_form())
 }
 
 /// Compares two updates by their versions.
@@ -47,13 +58,6 @@ fn by_version(a: &Update, b: &Update) -> Ordering
     } else {
         Ordering::Equal
     }
-}
-
-/// Whether it is a present file.
-fn is_file(update: &Update) -> bool
-    ensures { result ≡ is_file update.now }
-{
-    update.present && !update.is_directory()
 }
 
 /// Those whose versions a vector doesn't cover.
@@ -87,7 +91,7 @@ impl Engine {
     ghost use Rattle.script_engine.specs.Engines.{HasRoom, HasScene, Stands, made_by_all};
     ghost use Rattle.script_engine.specs.Text.{Does};
     ghost use Rattle.script_engine.specs.Begun.{Begins, BeginsFiles, BeginsPages, BeginsPull};
-    ghost use Rattle.script_engine.specs.Pulls.{AreCovered, ArePages, CanTake, Ended, FetchedFrom, FilesTaken, IsPinned, MayEnd, MayFetch, MayFinish, MayPage, MayTake, PagesTaken, PullEnds, Says, Took};
+    ghost use Rattle.script_engine.specs.Pulls.{AreCovered, ArePages, CanTake, Ended, FetchedFrom, FilesTaken, HasForm, IsPinned, MayEnd, MayFetch, MayFinish, MayPage, MayTake, PagesTaken, PullEnds, Says, Took};
 
     /// The vector and the records of the member with this place.
     fn ask(&mut self, alloc: Global, at: usize) -> Result<Pinned, AllocError>
@@ -117,7 +121,8 @@ impl Engine {
         }
     }
 
-    /// An update that the member of a database sent in this entry of its history is adopted.
+    /// An update that the member of a database sent in this entry of its history is adopted, a
+    /// present file with the form of its contents.
     fn adopt(
         &mut self,
         alloc: Global,
@@ -125,8 +130,10 @@ impl Engine {
         from: Guid,
         entry: u64,
         update: Update,
+        form: Option<Bytes>,
     ) -> Result<Result<(), Refusal>, AllocError>
         requires within { at < length self.old.folders.items }
+        requires form { HasForm update form }
         requires may { MayTake self.old (database_of (at + 1)) from update }
         requires room { made_by_all self.old < 2 ^ 60 }
         ensures ok { (s : Scene) → Stands self.old s → CanTake s.world (database_of (at + 1)) from update → IfOk result (λ outcome. (w : World) × Took s.world (database_of (at + 1)) from update outcome w × Stands self.new (in_world s w)) }
@@ -138,7 +145,7 @@ impl Engine {
             from,
             at: entry,
             update,
-            form: None,
+            form,
         };
         let reply = self.event(alloc, at, event)?;
         let Some(outcome) = taken_of(reply) else {
@@ -147,8 +154,8 @@ impl Engine {
         Ok(outcome)
     }
 
-    /// The record of a file at the member with this place, or the USN of what it has to consume
-    /// first.
+    /// The record of a file at the member with this place with its form, or the USN of what it has
+    /// to consume first.
     fn fetch(
         &mut self,
         alloc: Global,
@@ -163,9 +170,13 @@ impl Engine {
         ensures made { OnOk result (made_by_all self.new ≡ made_by_all self.old) }
         ensures many { length self.new.folders.items ≡ length self.old.folders.items }
     {
+        files_have_forms();
         let reply = self.event(alloc, at, Event::File { uid: update.uid })?;
         match file_of(reply) {
-            Some(FileAnswer::Found { at, update }) => Ok(Ok(Fetched { at, update })),
+            Some(FileAnswer::Found { at, update, body }) => {
+                let form = form_of(body);
+                Ok(Ok(Fetched { at, update, form }))
+            }
             Some(FileAnswer::NotYet { usn }) => Ok(Err(usn)),
             Some(FileAnswer::NoRecord) => unreachable!(),
             None => unreachable!(),
@@ -232,7 +243,7 @@ impl Engine {
                     listed.push(update.copy()?)?;
                 } else {
                     let update = update.copy()?;
-                    if let Err(refusal) = self.adopt(alloc, at, from, entry, update)? {
+                    if let Err(refusal) = self.adopt(alloc, at, from, entry, update, None)? {
                         return Ok(Err(refusal));
                     }
                     taken += 1;
@@ -271,8 +282,12 @@ impl Engine {
                     Ok(fetched) => fetched,
                     Err(usn) => return Ok(Err(Refusal::NotYet { usn })),
                 };
-                let Fetched { at: entry, update } = fetched;
-                if let Err(refusal) = self.adopt(alloc, at, server, entry, update)? {
+                let Fetched {
+                    at: entry,
+                    update,
+                    form,
+                } = fetched;
+                if let Err(refusal) = self.adopt(alloc, at, server, entry, update, form)? {
                     return Ok(Err(refusal));
                 }
                 taken += 1;

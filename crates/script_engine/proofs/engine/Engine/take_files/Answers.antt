@@ -45,8 +45,22 @@ adopt-requires-clause-may c =
     let wanted = said_yes c.wants.result (IsWanted w p u) (c.wants.ensures (in_world s w) on) c.if-wants.true in
     let known = files_covered s.world w e files u covered so.grows (in_place files i u c.loop-file-test.true c.file-item.is) in
     let (fetched, there) = c.in_ok-fetched.ensures.ok (in_world s w) on known in
-    let (file, of_file) = subst (FetchedFrom w e u.uid) c.in-Ok.is fetched in
+    let (file, of_file, has) = subst (FetchedFrom w e u.uid) c.in-Ok.is fetched in
     (in_world s w, there, subst (λ n. CanTake w p n v) (sym c.loop-file.invariant.server) (file_can w p e u v known wanted file of_file))
+
+pub adopt-requires-clause-form : goal.adopt-requires-clause-form
+adopt-requires-clause-form c =
+    let p = database_of (c.args.at + 1) in
+    let e = database_of (c.args.from + 1) in
+    let files = c.args.files.now in
+    let i = c.loop-file.file-index in
+    let u = c.file-item.result in
+    let (s, stands, covered) = c.requires.may in
+    let (w, so, on) = c.loop-file.invariant.ran s stands covered in
+    let known = files_covered s.world w e files u covered so.grows (in_place files i u c.loop-file-test.true c.file-item.is) in
+    let (fetched, there) = c.in_ok-fetched.ensures.ok (in_world s w) on known in
+    let (file, of_file, has) = subst (FetchedFrom w e u.uid) c.in-Ok.is fetched in
+    has
 
 pub returns-in-Err-2-clause-ok : goal.returns-in-Err-2-clause-ok
 returns-in-Err-2-clause-ok c = λ s stands covered.
@@ -60,7 +74,7 @@ returns-in-Err-2-clause-ok c = λ s stands covered.
     let wanted = said_yes c.wants.result (IsWanted w p u) (c.wants.ensures (in_world s w) on) c.if-wants.true in
     let known = files_covered s.world w e files u covered so.grows (in_place files i u c.loop-file-test.true c.file-item.is) in
     let (fetched, there) = c.in_ok-fetched.ensures.ok (in_world s w) on known in
-    let (file, of_file) = subst (FetchedFrom w e u.uid) c.in-Ok.is fetched in
+    let (file, of_file, has) = subst (FetchedFrom w e u.uid) c.in-Ok.is fetched in
     let can = subst (λ n. CanTake w p n v) (sym c.loop-file.invariant.server) (file_can w p e u v known wanted file of_file) in
     let (next, took, after) = c.in_ok-refusal.ensures.ok (in_world s w) there can in
     let (count, much, why, same) = subst (λ o. Took w p e v o next) c.in-Err-2.is (subst (λ n. Took w p n v c.in_ok-refusal.field-0 next) c.loop-file.invariant.server took) in
@@ -87,7 +101,7 @@ loop-file-preserved c = elim c.if-wants.branch [
             let wanted = said_yes c.wants.result (IsWanted w p u) (c.wants.ensures (in_world s w) on) b.if-wants.true in
             let known = files_covered s.world w e files u covered so.grows (in_place files i u c.loop-file-test.true c.file-item.is) in
             let (fetched, there) = b.in_ok-fetched.ensures.ok (in_world s w) on known in
-            let (file, of_file) = subst (FetchedFrom w e u.uid) b.in-Ok.is fetched in
+            let (file, of_file, has) = subst (FetchedFrom w e u.uid) b.in-Ok.is fetched in
             let can = subst (λ n. CanTake w p n v) (sym l.server) (file_can w p e u v known wanted file of_file) in
             let (next, took, after) = b.in_ok-refusal.ensures.ok (in_world s w) there can in
             let takes = subst (λ o. Took w p e v o next) b.in_default.is (subst (λ n. Took w p n v b.in_ok-refusal.field-0 next) l.server took) in

@@ -22,7 +22,7 @@ returns-clause-ok c = λ s stands.
     let names = c.push.ensures.items ∙ ap (λ l. l ++ m ∷ []) c.reserve_one.ensures.items in
     let folders = c.push-2.ensures.items ∙ ap (λ l. l ++ c.new-folder.result ∷ []) c.reserve_one-2.ensures.items in
     let fresh = ap (λ f. f.machine) c.new-folder.ensures ∙ (λ i. fresh_machine kind (db i) (c.content_set.ensures i)) in
-    stands_more e new s name kind m c.new-folder.result stands c.requires.name names folders named fresh c.book.ensures.sound.order
+    stands_more e new s name kind m c.new-folder.result stands c.requires.name names folders named fresh c.book.ensures.sound
 
 pub returns-in_err-reserve_one-clause-err : goal.returns-in_err-reserve_one-clause-err
 returns-in_err-reserve_one-clause-err c = λ s stands.

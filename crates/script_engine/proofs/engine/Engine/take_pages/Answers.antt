@@ -24,6 +24,9 @@ adopt-requires-clause-may c =
     let can = page_can s.world w p c.args.from page u stands.machines.scene.world.invariant.versions pages so.grows (in_place page i u c.loop-update-test.true c.update-item.is) wanted in
     (in_world s w, on, subst (CanTake w p c.args.from) (sym c.in_ok-update.ensures) can)
 
+pub adopt-requires-clause-form : goal.adopt-requires-clause-form
+adopt-requires-clause-form c = λ file. absurd (cc (sym c.is_file.ensures ∙ c.if-is_file.false, subst (λ v. is_file v ≡ true) c.in_ok-update.ensures file))
+
 pub returns-in-Err-clause-ok : goal.returns-in-Err-clause-ok
 returns-in-Err-clause-ok c = λ s stands pages.
     let p = database_of (c.args.at + 1) in

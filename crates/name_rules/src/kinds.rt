@@ -1,0 +1,12 @@
+// What an update is of.
+ghost use Rattle.std.specs.Prelude.{◌≡◌};
+ghost use Rattle.name_rules.specs.Tree.{is_file};
+
+use win_order::Update;
+
+/// Whether an update is of a present file: no directory's, and no tombstone.
+pub fn is_file(update: &Update) -> bool
+    ensures { result ≡ is_file update.now }
+{
+    update.present && !update.is_directory()
+}
