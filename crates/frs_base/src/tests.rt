@@ -1,10 +1,13 @@
+mod tape;
+
 use crate::{
-    Bytes, Guid, Gvsn, List, Name, NameError, ReservedVec, Uid, connection_of, content_set,
-    database_of, replica_set,
+    Bytes, Guid, Gvsn, List, Machine, Name, NameError, ReservedVec, Uid, codes_have_one_command,
+    connection_of, content_set, database_of, replica_set,
 };
 use std::alloc::Global;
 use std::process::Abort;
 use std::test::Fail;
+use tape::Tape;
 
 fn name_of(alloc: Global, text: &str) -> Result<Name, Fail> {
     let mut units = Vec::new(alloc);
@@ -154,5 +157,25 @@ fn reserved_values_stay_in_order(rt: HostRuntime) -> Result<(), Fail> {
     values.set(2, 8);
     assert_eq!(rt; values.change(0, |value| std::mem::replace(value, 9)), 5);
     assert_eq!(rt; values.as_slice(), [9, 6, 8].as_slice());
+    assert_eq!(rt; values.remove(1), 6);
+    assert_eq!(rt; values.as_slice(), [9, 8].as_slice());
+    Ok(())
+}
+
+#[test]
+fn a_machine_is_brought_back_by_its_commands(rt: HostRuntime) -> Result<(), Fail> {
+    let alloc = rt.alloc();
+    codes_have_one_command::<Tape>();
+    let mut tape = Tape {
+        bytes: ReservedVec::empty(),
+    };
+    for byte in [7, 0xff] {
+        let code = Tape::encode(alloc, &byte)?;
+        assert_eq!(rt; Tape::decode(alloc, &code)?, Some(byte));
+        let ready = tape.ready(alloc, byte)?;
+        tape.take(ready);
+    }
+    assert_eq!(rt; Tape::decode(alloc, &[1, 7])?, None);
+    assert_eq!(rt; tape.save(alloc)?.as_slice(), [7, 0xff].as_slice());
     Ok(())
 }
