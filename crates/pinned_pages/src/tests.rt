@@ -4,6 +4,7 @@ use super::*;
 use frs_base::{Bytes, Gvsn, MemberKind, Name, Sum, Uid, content_set, database_of};
 use record_db::Book;
 use std::alloc::Global;
+use std::process::Abort;
 use std::test::Fail;
 use version_vector::Interval;
 use win_order::Update;
@@ -41,17 +42,22 @@ fn update(alloc: Global, born: u64, version: u64) -> Result<Update, Fail> {
     })
 }
 
-#[test]
-fn a_pinned_state_stays(rt: HostRuntime) -> Result<(), Fail> {
-    let alloc = rt.alloc();
-    let mut book = Book::new(MemberKind::Plain, database_of(1), content_set());
-    for (born, version) in [(12, 9), (9, 10), (15, 11)] {
-        book.adopt(alloc, update(alloc, born, version)?, None)?;
+/// Adopts updates of these births and versions.
+fn adopt_all(alloc: Global, book: &mut Book, made: &[(u64, u64)]) -> Result<(), Fail> {
+    for (born, version) in made {
+        book.adopt(alloc, update(alloc, *born, *version)?, None)?;
     }
-    let pinned = Pinned::of(alloc, &book, 3)?;
-    for (born, version) in [(9, 12), (10, 13)] {
-        book.adopt(alloc, update(alloc, born, version)?, None)?;
-    }
+    Ok(())
+}
+
+/// The pinned state has the record of this birth and version.
+fn has(alloc: Global, pinned: &Pinned, born: u64, version: u64) -> Result<bool, Fail> {
+    let wanted = update(alloc, born, version)?;
+    Ok(pinned.find(file(born)) == Some(&wanted))
+}
+
+/// What was pinned of a book of three records at the third entry.
+fn look_at(rt: &impl Abort, alloc: Global, pinned: &Pinned) -> Result<(), Fail> {
     assert_eq!(rt; pinned.at, 3);
     let covered = [Interval {
         db: database_of(2),
@@ -61,13 +67,34 @@ fn a_pinned_state_stays(rt: HostRuntime) -> Result<(), Fail> {
     assert_eq!(rt; pinned.vector.intervals(), covered.as_slice());
     assert_eq!(rt; pinned.records.as_slice().len(), 3);
     for (born, version) in [(9, 10), (12, 9), (15, 11)] {
-        let wanted = update(alloc, born, version)?;
-        assert!(rt; pinned.find(file(born)) == Some(&wanted), "{born}");
+        assert!(rt; has(alloc, pinned, born, version)?, "{born}");
     }
     for born in [8, 10, 13, 16] {
         assert!(rt; pinned.find(file(born)).is_none(), "{born}");
     }
     Ok(())
+}
+
+/// Pins a book, and adopts more.
+fn pinned_before_more(alloc: Global, book: &mut Book) -> Result<Pinned, Fail> {
+    adopt_all(alloc, book, &[(12, 9), (9, 10), (15, 11)])?;
+    let pinned = Pinned::of(alloc, book, 3)?;
+    match adopt_all(alloc, book, &[(9, 12), (10, 13)]) {
+        Ok(()) => Ok(pinned),
+        Err(why) => Err(why),
+    }
+}
+
+/// A state that was pinned of a book that went on.
+fn pinned_once(alloc: Global) -> Result<Pinned, Fail> {
+    let mut book = Book::new(MemberKind::Plain, database_of(1), content_set());
+    pinned_before_more(alloc, &mut book)
+}
+
+#[test]
+fn a_pinned_state_stays(rt: HostRuntime) -> Result<(), Fail> {
+    let pinned = pinned_once(rt.alloc())?;
+    look_at(&rt, rt.alloc(), &pinned)
 }
 
 /// Reads of a body of ten bytes: from where, into how many, and what is then there.

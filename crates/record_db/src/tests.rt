@@ -2,6 +2,7 @@
 use super::*;
 use frs_base::{Bytes, Guid, Gvsn, MemberKind, Name, Phase, Sum, Uid, content_set, database_of};
 use std::alloc::Global;
+use std::process::Abort;
 use std::test::Fail;
 use version_vector::{Interval, Vector, VectorError};
 use win_order::Update;
@@ -159,31 +160,56 @@ adopt 2 18446744073709551615 9 400 -> 1:9..13 2:9..23 3:9..10 | 9=1:12@200 10=2:
 adopt 3 18446744073709551614 9 400 -> 1:9..13 2:9..23 3:9..10 3:18446744073709551614..18446744073709551615 | 9=3:18446744073709551614@400 10=2:20@300 11=3:9@50 | 13 normal"
 }
 
-#[test]
-fn a_book_takes_commands(rt: HostRuntime) -> Result<(), Fail> {
-    let alloc = rt.alloc();
-    let mut book = book();
+// What owns a book lends it to one function: each early return past a book that is owned makes a
+// proof much longer.
+
+/// Does the command of a line.
+fn do_line(alloc: Global, book: &mut Book, words: &str) -> Result<(), Fail> {
+    done(alloc, book, command(alloc, words)?)?;
+    Ok(())
+}
+
+/// Does the commands of these rows.
+fn try_rows(rt: &impl Abort, alloc: Global, book: &mut Book) -> Result<(), Fail> {
     for line in rows().lines() {
         let (words, wanted) = line.split_once(" -> ").ok_or("no arrow")?;
-        done(alloc, &mut book, command(alloc, words)?)?;
-        assert_eq!(rt; text_of(alloc, &book)?.as_str(), wanted, "{words}");
+        do_line(alloc, book, words)?;
+        assert_eq!(rt; text_of(alloc, book)?.as_str(), wanted, "{words}");
+    }
+    Ok(())
+}
+
+#[test]
+fn a_book_takes_commands(rt: HostRuntime) -> Result<(), Fail> {
+    let mut book = book();
+    try_rows(&rt, rt.alloc(), &mut book)
+}
+
+/// Makes a command ready and takes it, and answers what the book was in between.
+fn ready_and_taken(alloc: Global, book: &mut Book, words: &str) -> Result<String, Fail> {
+    let cmd = command(alloc, words)?;
+    let ready = book.ready(alloc, cmd)?;
+    let between = text_of(alloc, book);
+    book.take(ready);
+    between
+}
+
+/// Makes the commands of these rows ready one after the other, and takes each.
+fn try_ready_rows(rt: &impl Abort, alloc: Global, book: &mut Book) -> Result<(), Fail> {
+    for line in rows().lines() {
+        let (words, wanted) = line.split_once(" -> ").ok_or("no arrow")?;
+        let before = text_of(alloc, book)?;
+        let between = ready_and_taken(alloc, book, words)?;
+        assert_eq!(rt; between.as_str(), before.as_str(), "{words}");
+        assert_eq!(rt; text_of(alloc, book)?.as_str(), wanted, "{words}");
     }
     Ok(())
 }
 
 #[test]
 fn a_command_that_is_ready_is_taken_as_the_call_does_it(rt: HostRuntime) -> Result<(), Fail> {
-    let alloc = rt.alloc();
     let mut book = book();
-    for line in rows().lines() {
-        let (words, wanted) = line.split_once(" -> ").ok_or("no arrow")?;
-        let before = text_of(alloc, &book)?;
-        let ready = book.ready(alloc, command(alloc, words)?)?;
-        assert_eq!(rt; text_of(alloc, &book)?.as_str(), before.as_str(), "{words}");
-        book.take(ready);
-        assert_eq!(rt; text_of(alloc, &book)?.as_str(), wanted, "{words}");
-    }
-    Ok(())
+    try_ready_rows(&rt, rt.alloc(), &mut book)
 }
 
 #[test]
@@ -198,32 +224,44 @@ fn a_fresh_book_has_nothing(rt: HostRuntime) -> Result<(), Fail> {
     Ok(())
 }
 
-#[test]
-fn records_are_found_and_copied(rt: HostRuntime) -> Result<(), Fail> {
-    let alloc = rt.alloc();
-    let mut book = book();
+/// The book holds just this record of this file.
+fn holds(book: &Book, born: u64, record: Option<&Update>) -> bool {
+    book.held(file(born)) == record
+}
+
+/// Does the first six commands, and looks for two files.
+fn try_finding(rt: &impl Abort, alloc: Global, book: &mut Book) -> Result<(), Fail> {
     for line in rows().lines().take(6) {
         let (words, _) = line.split_once(" -> ").ok_or("no arrow")?;
-        done(alloc, &mut book, command(alloc, words)?)?;
+        do_line(alloc, book, words)?;
     }
     assert!(rt; book.rows(alloc)?.as_slice() == book.records());
     let found = update(alloc, 10, version_of(2, 20), 300)?;
-    assert!(rt; book.held(file(10)) == Some(&found));
-    assert!(rt; book.held(file(12)).is_none());
+    assert!(rt; holds(book, 10, Some(&found)));
+    assert!(rt; holds(book, 12, None));
+    Ok(())
+}
+
+#[test]
+fn records_are_found_and_copied(rt: HostRuntime) -> Result<(), Fail> {
+    let mut book = book();
+    try_finding(&rt, rt.alloc(), &mut book)
+}
+
+/// Adopts an update of another content set than the book's.
+fn try_adopting(rt: &impl Abort, alloc: Global, book: &mut Book) -> Result<(), Fail> {
+    book.adopt(alloc, update(alloc, 9, version_of(2, 9), 100)?, None)?;
+    for record in book.records() {
+        assert_eq!(rt; record.set, Guid::of_number(7));
+    }
+    assert_eq!(rt; book.records().len(), 1);
     Ok(())
 }
 
 #[test]
 fn a_record_is_of_the_book_s_content_set(rt: HostRuntime) -> Result<(), Fail> {
-    let alloc = rt.alloc();
-    let set = Guid::of_number(7);
-    let mut book = Book::new(MemberKind::Primary, database_of(1), set);
-    book.adopt(alloc, update(alloc, 9, version_of(2, 9), 100)?, None)?;
-    for record in book.records() {
-        assert_eq!(rt; record.set, set);
-    }
-    assert_eq!(rt; book.records().len(), 1);
-    Ok(())
+    let mut book = Book::new(MemberKind::Primary, database_of(1), Guid::of_number(7));
+    try_adopting(&rt, rt.alloc(), &mut book)
 }
 
 /// The byte of the form that is staged of a file.
@@ -260,16 +298,20 @@ finish 2 9 30 -> | 11=6
 unstage 11 -> |"
 }
 
-#[test]
-fn a_form_is_staged_until_its_file_changes(rt: HostRuntime) -> Result<(), Fail> {
-    let alloc = rt.alloc();
-    let mut book = book();
+/// Does the commands of these rows.
+fn try_staging_rows(rt: &impl Abort, alloc: Global, book: &mut Book) -> Result<(), Fail> {
     for line in staging_rows().lines() {
         let (words, wanted) = line.split_once(" -> ").ok_or("no arrow")?;
-        done(alloc, &mut book, command(alloc, words)?)?;
-        assert_eq!(rt; staged_text(alloc, &book)?.as_str(), wanted, "{words}");
+        do_line(alloc, book, words)?;
+        assert_eq!(rt; staged_text(alloc, book)?.as_str(), wanted, "{words}");
     }
     Ok(())
+}
+
+#[test]
+fn a_form_is_staged_until_its_file_changes(rt: HostRuntime) -> Result<(), Fail> {
+    let mut book = book();
+    try_staging_rows(&rt, rt.alloc(), &mut book)
 }
 
 /// So many versions of the second member, with a gap behind each.
@@ -284,12 +326,22 @@ fn gaps(alloc: Global, count: u32) -> Result<Vector, Fail> {
 
 /// What a command answers in a book with as many intervals as a vector may have, and how many
 /// there are then.
+fn answer_of(
+    alloc: Global,
+    book: &mut Book,
+    line: &str,
+) -> Result<(Result<(), VectorError>, usize), Fail> {
+    let full = gaps(alloc, 65_536)?;
+    book.finish(alloc, &full)?;
+    let cmd = command(alloc, line)?;
+    let answer = done(alloc, book, cmd);
+    Ok((answer, book.vector().intervals().len()))
+}
+
+/// The same in a book of its own.
 fn answer(alloc: Global, line: &str) -> Result<(Result<(), VectorError>, usize), Fail> {
     let mut book = book();
-    book.finish(alloc, &gaps(alloc, 65_536)?)?;
-    let cmd = command(alloc, line)?;
-    let answer = done(alloc, &mut book, cmd);
-    Ok((answer, book.vector().intervals().len()))
+    answer_of(alloc, &mut book, line)
 }
 
 #[test]
@@ -310,12 +362,17 @@ fn a_vector_that_would_be_too_long_is_refused(rt: HostRuntime) -> Result<(), Fai
     Ok(())
 }
 
+/// Finishes a round that would cover too much.
+fn try_too_much(rt: &impl Abort, alloc: Global, book: &mut Book) -> Result<(), Fail> {
+    let much = gaps(alloc, 65_537)?;
+    let full = Err(VectorError::VectorFull { count: 65_537 });
+    assert_eq!(rt; book.finish(alloc, &much), full);
+    assert_eq!(rt; text_of(alloc, book)?.as_str(), "| | 9 initial");
+    Ok(())
+}
+
 #[test]
 fn a_round_that_would_cover_too_much_changes_nothing(rt: HostRuntime) -> Result<(), Fail> {
-    let alloc = rt.alloc();
     let mut book = book();
-    let full = Err(VectorError::VectorFull { count: 65_537 });
-    assert_eq!(rt; book.finish(alloc, &gaps(alloc, 65_537)?), full);
-    assert_eq!(rt; text_of(alloc, &book)?.as_str(), "| | 9 initial");
-    Ok(())
+    try_too_much(&rt, rt.alloc(), &mut book)
 }

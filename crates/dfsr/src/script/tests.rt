@@ -92,8 +92,8 @@ fn short_scripts(rt: HostRuntime) -> Result<(), Fail> {
 
 /// That a script has a row outside the grammar, whose number is written.
 fn expect_bad(rt: &impl Abort, alloc: Global, text: &[u8], number: u64) -> Result<(), Fail> {
-    let (ended, out) = script(alloc, text)?;
     let line = format!(in alloc; "bad line {number}\n")?;
+    let (ended, out) = script(alloc, text)?;
     assert_eq!(rt; ended, Status::ScriptBad, "{text:?}");
     assert_eq!(rt; out.bytes(), line.as_bytes(), "{text:?}");
     Ok(())
