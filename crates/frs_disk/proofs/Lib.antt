@@ -5,3 +5,4 @@ pub mod Stands
 pub mod Lasting
 pub mod Replays
 pub mod Keeping
+pub mod Losing

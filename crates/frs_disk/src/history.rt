@@ -105,7 +105,8 @@ fn follow_if(bytes: &mut Vec<u8>, source: &[u8], same: usize, lost: bool)
 impl History {
     /// No bytes, and nothing was done.
     pub fn new(alloc: Global) -> History
-        ensures { result.states ≡ still [] ∷ [] }
+        ensures states { result.states ≡ still [] ∷ [] }
+        ensures stands { Stands (top result.states) }
     {
         History {
             bytes: Vec::new(alloc),
@@ -145,7 +146,6 @@ impl History {
         requires within { at ≤ length (seen_now self.old.states) }
         requires calls { 0 < self.old.spare_calls }
         requires bytes { length bytes.now ≤ self.old.spare_bytes }
-        ensures stood { Stands (top self.old.states) }
         ensures stands { Stands (top self.new.states) }
         ensures states { self.new.states ≡ push (λ s. lost_if lost (wrote at bytes.now s)) self.old.states }
         ensures calls { self.old.spare_calls ≤ self.new.spare_calls + 1 }
@@ -166,7 +166,6 @@ impl History {
     pub fn cut(&mut self, length: usize, lost: bool)
         requires within { length ≤ Rattle.std.specs.Prelude.length (seen_now self.old.states) }
         requires calls { 0 < self.old.spare_calls }
-        ensures stood { Stands (top self.old.states) }
         ensures stands { Stands (top self.new.states) }
         ensures states { self.new.states ≡ push (λ s. lost_if lost (cut_to length s)) self.old.states }
         ensures calls { self.old.spare_calls ≤ self.new.spare_calls + 1 }
@@ -181,7 +180,6 @@ impl History {
     /// Makes sure of what a read gives.
     pub fn sync(&mut self)
         requires { 0 < self.old.spare_calls }
-        ensures stood { Stands (top self.old.states) }
         ensures stands { Stands (top self.new.states) }
         ensures states { self.new.states ≡ push synced self.old.states }
         ensures calls { self.old.spare_calls ≤ self.new.spare_calls + 1 }
@@ -195,7 +193,6 @@ impl History {
     /// Stops in a sync: the bytes of the last one come back.
     pub fn lose(&mut self)
         requires { 0 < self.old.spare_calls }
-        ensures stood { Stands (top self.old.states) }
         ensures stands { Stands (top self.new.states) }
         ensures states { self.new.states ≡ push lost self.old.states }
         ensures calls { self.old.spare_calls ≤ self.new.spare_calls + 1 }
@@ -208,7 +205,7 @@ impl History {
 
     /// Begins anew with what a read gives, all of it made sure of.
     pub fn restart(&mut self)
-        ensures stood { Stands (top self.old.states) }
+        ensures stands { Stands (top self.new.states) }
         ensures states { self.new.states ≡ still (seen_now self.old.states) ∷ [] }
         ensures calls { self.old.spare_calls ≤ self.new.spare_calls }
         ensures bytes { self.old.spare_bytes ≤ self.new.spare_bytes }

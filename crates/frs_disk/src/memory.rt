@@ -30,7 +30,8 @@ pub struct MemDisk {
 impl Model for MemDisk {
     ghost use Rattle.std.specs.Prelude.{◌≡◌, [], false, true, None};
     ghost use Rattle.frs_disk.specs.Memory.{MemState, alarm_of};
-    ghost use Rattle.frs_disk.specs.Moments.{seen_now};
+    ghost use Rattle.frs_disk.specs.Crashes.{Stands};
+    ghost use Rattle.frs_disk.specs.Moments.{seen_now, top};
 
     ghost Value = { MemState };
 
@@ -42,8 +43,9 @@ impl Model for MemDisk {
       spare_bytes = d.history.spare_bytes;
     } };
 
-    ghost invariant = { λ d. (d.changed ≡ false → seen_now d.history.states ≡ [])
-      × (d.script.was_armed ≡ false → (d.script.armed ≡ None) × (d.script.faults ≡ 0)) };
+    ghost invariant = { λ d. (d.changed ≡ false → (seen_now d.history.states ≡ []) × ((top d.history.states).safe ≡ []))
+      × (d.script.was_armed ≡ false → (d.script.armed ≡ None) × (d.script.faults ≡ 0))
+      × Stands (top d.history.states) };
 }
 
 impl MemDisk {
@@ -87,9 +89,9 @@ impl FrsDisk for MemDisk {
     }
 
     fn read(&mut self, at: u64, buf: &mut [u8]) -> Result<(), Failed> {
+        let bytes = self.history.bytes();
         let at = at as usize;
-        let end = at + buf.len();
-        buf.copy_from_slice(&self.history.bytes()[at..end]);
+        buf.copy_from_slice(&bytes[at..at + buf.len()]);
         Ok(())
     }
 
@@ -185,7 +187,9 @@ impl ScriptDisk for MemDisk {
         true
     }
 
+    /// None, since each call that fails was armed.
     fn unarmed(&self) -> u64 {
+        let _ = &self.script;
         0
     }
 }
