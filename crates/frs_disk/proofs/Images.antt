@@ -1,8 +1,7 @@
 -- What a torn write or cut may leave of a disk that was at rest.
-use Rattle.std.proofs.Common.{◌≡◌, ◌≤◌, ◌<◌, ◌⊎◌, ℕ, zero, suc, ◌+◌, ◌-◌, List, [], ◌∷◌, ◌++◌, length, take, drop, refl, sym, ap, ◌∙◌, subst, arith, inl, inr, get_or, length-append, length-drop}
+use Rattle.std.proofs.Common.{◌≡◌, ◌≤◌, ◌<◌, ℕ, ◌+◌, ◌-◌, List, [], ◌∷◌, length, take, drop, sym, ap, ◌∙◌, arith, inl, inr, length-drop}
 use Rattle.std.proofs.lemmas.List.{get_or-take, get_or-drop, length-take-le, ext_get_or}
-use Rattle.frs_disk.specs.Crashes.{Crash, still, patch, wrote, cut_to, synced, unchanged, IsImage, IsTorn, Leaves, Within}
-use Rattle.frs_disk.specs.Moments.{top, seen_now, push, pushed, Now, Each, Goes, Since, Stops, IsMoment, MayLeave, MightLeave}
+use Rattle.frs_disk.specs.Crashes.{still, wrote, cut_to, IsImage, IsTorn}
 
 before_torn : (at n k : ℕ) → k < at → IsTorn ((at, n) ∷ []) k → ⊥
 before_torn at n k lt (inl r) = absurd (omega (arith, lt, r.0))

@@ -1,8 +1,8 @@
 -- A disk in memory after one call more.
 use Rattle.std.proofs.Common.{◌≡◌, ◌≤◌, ℕ, ◌+◌, ◌-◌, min, Bool, true, false, List, [], ◌∷◌, ◌++◌, length, take, drop, refl, sym, ap, ◌∙◌, subst, arith, length-append, append-nil, if◌then◌else◌}
 use Rattle.std.proofs.lemmas.List.{take-append-le, take-take, take_all, length-take-le}
-use Rattle.frs_disk.specs.Crashes.{Crash, Stands, IsImage, still, patch, wrote, cut_to, synced, lost}
-use Rattle.frs_disk.specs.Moments.{push, top, seen_now}
+use Rattle.frs_disk.specs.Crashes.{Crash, Stands, still, patch, wrote, cut_to, lost}
+use Rattle.frs_disk.specs.Moments.{top, seen_now}
 use Rattle.frs_disk.specs.History.{IsKept, count_of, made, states_of, written}
 use Rattle.frs_disk.specs.declared.history.Call.{Call}
 use Rattle.frs_disk.specs.declared.history.Call.TheVariants.{Write, Cut, Sync}

@@ -1,8 +1,8 @@
 -- What holds at every moment since.
-use Rattle.std.proofs.Common.{◌≡◌, ◌<◌, ◌⊎◌, ℕ, ◌+◌, List, [], ◌∷◌, ◌++◌, length, refl, sym, ap, ◌∙◌, subst, inl, inr, Option, Some, None, arith, length-append}
+use Rattle.std.proofs.Common.{◌≡◌, ℕ, List, [], ◌∷◌, ◌++◌, length, sym, ap, ◌∙◌, subst, inl, inr, Option, Some, None, arith, length-append}
 use Rattle.std.proofs.lemmas.List.{append_cancel_right}
 use Rattle.frs_disk.specs.Crashes.{Crash, IsImage}
-use Rattle.frs_disk.specs.Moments.{top, Now, Each, Goes, Since, IsMoment, MayLeave, MightLeave}
+use Rattle.frs_disk.specs.Moments.{Now, Each, Since, IsMoment, MayLeave, MightLeave}
 
 some_same : {X : Type 0} (x y : X) → Some x ≡ Some y → x ≡ y
 some_same x y e = cc

@@ -1,6 +1,6 @@
 -- What an armed call leaves of a disk in memory is what a stop inside it may leave.
-use Rattle.std.proofs.Common.{◌≡◌, List, [], ◌∷◌, ◌++◌, Bool, true, false, refl, sym, ap, ◌∙◌, subst, Option, Some, None}
-use Rattle.frs_disk.specs.Crashes.{Crash, Stands, IsImage, Within, lost, synced, unchanged}
+use Rattle.std.proofs.Common.{◌≡◌, List, [], ◌∷◌, Bool, true, false, ap, subst, Some}
+use Rattle.frs_disk.specs.Crashes.{Crash, Stands, Within, lost, synced, unchanged}
 use Rattle.frs_disk.specs.Moments.{Stops, push, top}
 use Rattle.frs_disk.specs.History.{lost_if}
 use Rattle.frs_disk.proofs.Moments.{within_synced}

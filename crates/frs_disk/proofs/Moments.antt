@@ -1,8 +1,8 @@
 -- How time goes on.
-use Rattle.std.proofs.Common.{◌≡◌, ◌≤◌, ◌<◌, ◌⊎◌, ℕ, zero, suc, ◌+◌, List, [], ◌∷◌, ◌++◌, length, take, drop, refl, sym, ap, ◌∙◌, subst, arith, inl, inr, append_assoc, Option, Some, None, get_or}
+use Rattle.std.proofs.Common.{◌≡◌, ◌<◌, ◌⊎◌, ℕ, suc, List, [], ◌∷◌, ◌++◌, length, refl, sym, ap, ◌∙◌, subst, arith, inl, inr, append_assoc, Option, Some, None, get_or}
 use Rattle.std.specs.Prelude.{Result, Ok, Err, OnOk, OnErr}
-use Rattle.frs_disk.specs.Crashes.{Crash, still, patch, wrote, cut_to, synced, unchanged, IsImage, IsTorn, Leaves, Within}
-use Rattle.frs_disk.specs.Moments.{top, seen_now, push, pushed, Now, Each, Goes, Since, Stops, IsMoment, MayLeave, MightLeave}
+use Rattle.frs_disk.specs.Crashes.{Crash, still, synced, unchanged, IsImage, Within}
+use Rattle.frs_disk.specs.Moments.{top, pushed, Now, Each, Goes, Stops}
 
 pub same_by_index : (xs ys : List ℕ) → length xs ≡ length ys → ((k : ℕ) → k < length xs → get_or xs k 0 ≡ get_or ys k 0) → xs ≡ ys
 same_by_index [] [] len each = refl

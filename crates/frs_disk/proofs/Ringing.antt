@@ -1,7 +1,7 @@
 -- Calls one after the other, as an alarm counts them.
-use Rattle.std.proofs.Common.{◌≡◌, ◌≤◌, ◌<◌, ◌+◌, ◌-◌, ◌⊎◌, min, ℕ, refl, sym, ap, ◌∙◌, subst, inl, inr, arith, Option, Some, None, ◌^◌}
-use Rattle.std.specs.Prelude.{IfSome, Result, Ok, Err, OnErr, MatchResult}
-use Rattle.frs_disk.specs.Alarms.{Alarm, Armed, Rose, raised, less, Passes, Rings, Breaks, Fails, FailsAt, TicksUpTo}
+use Rattle.std.proofs.Common.{◌≡◌, ◌≤◌, ◌+◌, ◌-◌, ℕ, refl, sym, ap, ◌∙◌, subst, inl, inr, arith, Option, Some, None}
+use Rattle.std.specs.Prelude.{IfSome}
+use Rattle.frs_disk.specs.Alarms.{Alarm, Armed, Rose, raised, less, Passes, Fails, FailsAt}
 
 less_less : (m n : ℕ) (o : Option Armed) → less n (less m o) ≡ less (m + n) o
 less_less m n None = refl

@@ -1,10 +1,8 @@
 -- What a read gives is an image, whatever was called.
-use Rattle.std.proofs.Common.{◌≡◌, ◌≤◌, ◌<◌, ◌⊎◌, ℕ, zero, suc, ◌+◌, ◌-◌, List, [], ◌∷◌, ◌++◌, length, take, drop, refl, sym, ap, ◌∙◌, subst, arith, inl, inr, get_or, length-append, length-drop}
+use Rattle.std.proofs.Common.{◌≡◌, ◌≤◌, ◌<◌, ◌⊎◌, ℕ, zero, suc, ◌+◌, ◌-◌, List, ◌∷◌, ◌++◌, length, take, drop, ap, ◌∙◌, arith, inl, inr, get_or, length-append, length-drop}
 use Rattle.std.proofs.lemmas.List.{get_or-take, get_or-drop, length-take-le, get_or_append_left}
 use Rattle.std.proofs.Math.Seq.{get_or-append_right}
-use Rattle.frs_disk.specs.Crashes.{Crash, still, patch, wrote, cut_to, synced, unchanged, IsImage, IsTorn, Leaves, Within}
-use Rattle.frs_disk.specs.Moments.{top, seen_now, push, pushed, Now, Each, Goes, Since, Stops, IsMoment, MayLeave, MightLeave}
-use Rattle.frs_disk.proofs.Moments.{still_stands}
+use Rattle.frs_disk.specs.Crashes.{Crash, patch, wrote, cut_to, IsImage, IsTorn}
 
 pub patch_length : (at : ℕ) (bytes xs : List ℕ) → at ≤ length xs → length (patch at bytes xs) ≡ at + length bytes + (length xs - (at + length bytes))
 patch_length at bytes xs le = omega (arith, length-append (take at xs) (bytes ++ drop (at + length bytes) xs), length-append bytes (drop (at + length bytes) xs), length-take-le at xs le, length-drop (at + length bytes) xs)

@@ -7,3 +7,4 @@ pub mod Histories
 pub mod History
 pub mod Memory
 pub mod Reached
+pub mod Racks

@@ -1,5 +1,5 @@
 -- What contracts see of a disk in memory.
-use Rattle.std.specs.Prelude.{ℕ, List, Option, Some, None, Bool, true, false, ◌≡◌, is_some}
+use Rattle.std.specs.Prelude.{ℕ, List, Option, Some, None, true}
 use Rattle.frs_disk.specs.Crashes.{Crash}
 use Rattle.frs_disk.specs.Alarms.{Alarm, Armed}
 use Rattle.frs_disk.specs.Starts.{Start}

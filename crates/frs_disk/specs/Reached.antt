@@ -1,7 +1,6 @@
 -- Whether a call of a disk in memory is the armed one.
-use Rattle.std.specs.Prelude.{ℕ, ◌≡◌, Option, Some, None}
+use Rattle.std.specs.Prelude.{◌≡◌, Some, None}
 use Rattle.frs_disk.specs.Alarms.{Alarm, Passes, Rings}
-use Rattle.frs_disk.specs.declared.image.Image.{Image}
 use Rattle.frs_disk.specs.declared.script.Reached.{Reached}
 use Rattle.frs_disk.specs.declared.script.Reached.TheVariants.{Passed, Failed, Stopped}
 

@@ -74,13 +74,7 @@ pub trait FrsDisk: Drop {
 
     /// Reads bytes that begin with this head and have this SHA-1 sum. A disk that gives back
     /// others counts a fault.
-    fn read_sum(
-        &mut self,
-        at: u64,
-        buf: &mut [u8],
-        head: &[u8],
-        sum: &Sum,
-    ) -> Result<(), Failed>
+    fn read_sum(&mut self, at: u64, buf: &mut [u8], head: &[u8], sum: &Sum) -> Result<(), Failed>
         requires within { IfSome (states self.old) (λ ss. at + length buf.old ≤ length (seen_now ss)) }
         requires told { IfSome (states self.old) (λ ss. HasSum head.now sum.now.0 (take (length buf.old) (drop at (seen_now ss)))) }
         ensures sum { OnOk result (HasSum head.now sum.now.0 buf.new) }

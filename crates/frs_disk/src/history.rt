@@ -48,7 +48,7 @@ impl Model for History {
     } };
 
     ghost invariant = { λ h. IsKept h.bytes.items h.safe.items h.clean h.base h.calls.items h.pool.items
-      × (max (vec_len h.bytes) (vec_len h.safe) ≤ min (vec_capacity h.bytes) (vec_capacity h.safe)) };
+        × (max (vec_len h.bytes) (vec_len h.safe) ≤ min (vec_capacity h.bytes) (vec_capacity h.safe)) };
 }
 
 /// Puts bytes over what is there and past the end, with room that is there.
@@ -152,7 +152,12 @@ impl History {
         ensures bytes { self.old.spare_bytes ≤ self.new.spare_bytes + length bytes.now }
     {
         put(&mut self.bytes, at, bytes);
-        follow_if(&mut self.bytes, self.safe.as_slice(), self.clean.min(at), lost);
+        follow_if(
+            &mut self.bytes,
+            self.safe.as_slice(),
+            self.clean.min(at),
+            lost,
+        );
         self.clean = self.clean.min(at);
         self.calls.push_reserved(Call::Write {
             at,
@@ -172,7 +177,12 @@ impl History {
         ensures bytes { self.old.spare_bytes ≤ self.new.spare_bytes }
     {
         self.bytes.truncate(length);
-        follow_if(&mut self.bytes, self.safe.as_slice(), self.clean.min(length), lost);
+        follow_if(
+            &mut self.bytes,
+            self.safe.as_slice(),
+            self.clean.min(length),
+            lost,
+        );
         self.clean = self.clean.min(length);
         self.calls.push_reserved(Call::Cut { length, lost });
     }

@@ -10,13 +10,18 @@ mod disk;
 mod history;
 mod image;
 mod memory;
+mod memory_rack;
+mod rack;
 mod script;
 mod script_disk;
 mod steps;
+#[cfg(test)]
+mod tests;
 
 pub use disk::{Failed, FrsDisk};
-
 pub use image::Image;
 pub use memory::MemDisk;
+pub use memory_rack::MemRack;
+pub use rack::{DiskSet, Rack, RackError};
 pub use script_disk::ScriptDisk;
 pub use steps::{cut_synced, write_synced};

@@ -44,8 +44,8 @@ impl Model for MemDisk {
     } };
 
     ghost invariant = { λ d. (d.changed ≡ false → (seen_now d.history.states ≡ []) × ((top d.history.states).safe ≡ []))
-      × (d.script.was_armed ≡ false → (d.script.armed ≡ None) × (d.script.faults ≡ 0))
-      × Stands (top d.history.states) };
+        × (d.script.was_armed ≡ false → (d.script.armed ≡ None) × (d.script.faults ≡ 0))
+        × Stands (top d.history.states) };
 }
 
 impl MemDisk {

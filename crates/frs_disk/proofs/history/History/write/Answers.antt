@@ -1,4 +1,4 @@
-use Rattle.std.proofs.Common.{rules, ◌≡◌, ◌≤◌, ℕ, max, min, vec_len, vec_capacity, length, [], refl, sym, arith, ap, ◌∙◌, take, if◌then◌else◌, Bool, List}
+use Rattle.std.proofs.Common.{rules, ◌≡◌, ◌≤◌, ℕ, max, min, vec_len, vec_capacity, length, refl, sym, ap, ◌∙◌, take, if◌then◌else◌, List}
 use Rattle.frs_disk.specs.declared.history.Call.TheVariants.{Write}
 use Rattle.frs_disk.proofs.Keeping.{kept_write, same_written}
 use Rattle.frs_disk.proofs.Replays.{states_more}

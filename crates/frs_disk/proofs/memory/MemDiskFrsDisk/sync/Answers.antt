@@ -1,4 +1,3 @@
-use Rattle.std.proofs.Common.{◌≡◌, sym, ap}
 use Rattle.frs_disk.proofs.Losing.{stops_synced, stops_losing}
 use Rattle.frs_disk.proofs.memory.MemDiskFrsDisk.sync.Goals as goal
 

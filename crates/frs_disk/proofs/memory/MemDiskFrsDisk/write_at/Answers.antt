@@ -1,4 +1,3 @@
-use Rattle.std.proofs.Common.{◌≡◌, sym, ap}
 use Rattle.frs_disk.specs.Crashes.{wrote}
 use Rattle.frs_disk.proofs.Losing.{stops_lost}
 use Rattle.frs_disk.proofs.memory.MemDiskFrsDisk.write_at.Goals as goal

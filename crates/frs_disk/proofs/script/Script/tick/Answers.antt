@@ -1,6 +1,6 @@
 use Rattle.std.proofs.Common.{rules, ◌≡◌, ℕ, Bool, Some, None, ap, ◌∙◌, Option, arith}
 use Rattle.std.specs.Prelude.{is_some}
-use Rattle.frs_disk.specs.Alarms.{Alarm, Armed, Rings, raised}
+use Rattle.frs_disk.specs.Alarms.{Rings, raised}
 use Rattle.frs_disk.specs.Memory.{alarm_of, armed_of}
 use Rattle.frs_disk.specs.declared.image.Image.{Image}
 use Rattle.frs_disk.specs.declared.script.ArmedCall.{ArmedCall}
