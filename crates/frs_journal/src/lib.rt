@@ -1,0 +1,15 @@
+//! A journal of the commands of a machine, on two disks, that a crash doesn't break.
+//!
+//! Read [`Journalled`] first: a machine and its two slots. Each command is one record; its bytes go
+//! behind the slot's last gate, and then the gate is opened. `specs/Slots.antt` has the bytes of a
+//! slot, and `specs/Loads.antt` what two slots stand for.
+#![tactic(auto)]
+
+mod faults;
+mod fresh;
+mod journalled;
+mod slot;
+
+pub use faults::{ApplyFault, LoadFault, LoadWhy, Slot};
+pub use journalled::{Journalled, Prepared};
+pub use slot::{append_record, clear, fill, renew};
