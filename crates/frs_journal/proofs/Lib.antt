@@ -6,3 +6,8 @@ pub mod Commits
 pub mod Nones
 pub mod Begins
 pub mod Moving
+pub mod Records
+pub mod SameLists
+pub mod Once
+pub mod Trims
+pub mod Openings

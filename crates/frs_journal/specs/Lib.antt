@@ -4,3 +4,7 @@ pub mod Gates
 pub mod Rests
 pub mod State
 pub mod Faults
+pub mod Reading
+pub mod Damage
+pub mod Picks
+pub mod Opens

@@ -5,11 +5,15 @@
 //! slot, and `specs/Loads.antt` what two slots stand for.
 #![tactic(auto)]
 
+mod choice;
 mod faults;
 mod fresh;
 mod journalled;
+mod laws;
+mod reading;
 mod slot;
 
 pub use faults::{ApplyFault, LoadFault, LoadWhy, Slot};
 pub use journalled::{Journalled, Prepared};
+pub use laws::loads_once;
 pub use slot::{append_record, clear, fill, renew};

@@ -1,0 +1,27 @@
+-- The first wrong place of two slots.
+use Rattle.std.specs.Prelude.{ℕ, ◌≡◌, ◌≢◌, ◌⊎◌, List, Bool, true, false, Option, Some, None}
+use Rattle.frs_base.specs.Machines.{Rules}
+use Rattle.frs_journal.specs.Reading.{CountsTooMany, IsWhole, LacksRecord}
+use Rattle.frs_journal.specs.Slots.{generation_of, is_bad, takes_b}
+use Rattle.frs_journal.specs.declared.faults.Slot.{Slot}
+use Rattle.frs_journal.specs.declared.faults.Slot.TheVariants.{A, B}
+use Rattle.frs_journal.specs.declared.reading.Parsed.{Parsed}
+use Rattle.frs_journal.specs.declared.reading.Parsed.TheVariants.{Whole, Broken}
+
+-- the place from which a valid slot has no list: the gate of a record that is none, else the first gate where the count exceeds the commands behind it
+abbrev pub IsBroken : {S C : Type 0} → Rules S C → List ℕ → ℕ → Type 0
+IsBroken law bytes offset = LacksRecord law bytes offset ⊎ (CountsTooMany law bytes × (offset ≡ 25))
+
+-- what was read of a valid slot
+abbrev pub Parses : {S C : Type 0} → Rules S C → List ℕ → Parsed C → Type 0
+Parses law bytes (Whole commands saved end) = IsWhole law bytes end saved commands.items
+Parses law bytes (Broken offset) = IsBroken law bytes offset
+
+-- a slot that says that it is valid and has another magic, slot a first; else the slot that is taken has no list from this place on
+abbrev pub IsDamaged : {S C : Type 0} → Rules S C → List ℕ → List ℕ → Slot → ℕ → Type 0
+IsDamaged law a b A offset =
+    ((is_bad a ≡ true) × (offset ≡ 1))
+    ⊎ ((is_bad a ≡ false) × (is_bad b ≡ false) × (generation_of a ≢ None) × (takes_b (generation_of a) (generation_of b) ≡ false) × IsBroken law a offset)
+IsDamaged law a b B offset =
+    ((is_bad a ≡ false) × (is_bad b ≡ true) × (offset ≡ 1))
+    ⊎ ((is_bad a ≡ false) × (is_bad b ≡ false) × (takes_b (generation_of a) (generation_of b) ≡ true) × IsBroken law b offset)

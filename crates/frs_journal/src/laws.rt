@@ -1,0 +1,11 @@
+// What follows for every journal from what two slots stand for.
+ghost use Rattle.std.specs.Prelude.{◌≡◌, List, ℕ};
+ghost use Rattle.frs_journal.specs.Loads.{Loads};
+
+use frs_base::Machine;
+
+/// Two slots load to one state of a machine, and one number of commands.
+pub fn loads_once<M: Machine>()
+    ensures { (m n : M.State) (k l : ℕ) (a b : List ℕ) → M.law.origin m ≡ M.law.origin n
+        → Loads M.law m k a b → Loads M.law n l a b → (m ≡ n) × (k ≡ l) }
+{}
