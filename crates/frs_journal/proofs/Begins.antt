@@ -10,13 +10,12 @@ use Rattle.frs_journal.specs.Gates.{Gated, Has, IsCleared, Renewing}
 use Rattle.frs_journal.specs.Loads.{Loads}
 use Rattle.frs_journal.specs.Rests.{Always, Kept, Pairs}
 use Rattle.frs_journal.specs.Slots.{Holds, IsList, IsShort, Yields, generation_of, head, serial_at, serial_by, serial_of, slot_front, taken, takes_b, wire}
-use Rattle.frs_journal.proofs.Commits.{loads_slot, now_map, since_same}
+use Rattle.frs_journal.specs.Unmade.{IsBegun, IsNone, fresh_body}
+use Rattle.frs_journal.specs.Loads.{AnyMoment}
+use Rattle.frs_journal.specs.Slots.{slot_a, slot_b}
+use Rattle.frs_journal.proofs.Commits.{any_might, loads_slot, now_map, since_same}
 use Rattle.frs_journal.proofs.Fronts.{front_marked, is_one, wire_0}
-use Rattle.frs_journal.proofs.Nones.{IsNone, cleared_none, closed_none, empty_none, none_yields}
-
--- the fresh slot behind the gate of its header
-abbrev pub fresh_body : List ℕ
-fresh_body = 70 ∷ 82 ∷ 83 ∷ 74 ∷ 82 ∷ 78 ∷ 48 ∷ 49 ∷ 1 ∷ 0 ∷ 0 ∷ 0 ∷ 0 ∷ 0 ∷ 0 ∷ 0 ∷ 0 ∷ 0 ∷ 0 ∷ 0 ∷ 0 ∷ 0 ∷ 0 ∷ 0 ∷ 0 ∷ []
+use Rattle.frs_journal.proofs.Nones.{cleared_none, closed_none, empty_none, none_yields}
 
 pub fresh_is : 1 ∷ fresh_body ≡ slot_front 1 0 [] ++ 0 ∷ []
 unfolding head
@@ -25,10 +24,6 @@ fresh_is = refl
 fresh_size : length (slot_front 1 0 []) + 1 ≡ 26
 unfolding head
 fresh_size = refl
-
--- no slot is there, or the fresh one
-abbrev pub IsBegun : List ℕ → Type 0
-IsBegun c = IsNone c ⊎ (c ≡ 1 ∷ fresh_body)
 
 gated_begun : (body c : List ℕ) → body ≡ fresh_body → Gated [] body c → IsBegun c
 gated_begun body c is gated = by_gate (is_one gated.gate)
@@ -118,6 +113,13 @@ module _ {M C : Type 0} (law : Rules M C) where
             (λ t leaves. λ d image. (let Q : Option ℕ → Type 0 = λ g. Yields false g d in
             subst Q (sym (ap (λ (s : Crash). generation_of s.seen) e ∙ front_marked 1 0 [] 0 [])) (none_yields false (wire 1) d (leaves d image)))) other;
       }
+
+-- the same of the slots in their order
+pub fresh_moments : {M C D : Type 0} (law : Rules M C) (f : D → Option (List Crash)) (m : M) (a b current other : D) (in_b : Bool) → law.origin m ≡ m → Has [] (f a) → Has [] (f b)
+    → Goes (Leaves IsBegun) (f a) (f current) → other ≡ b → in_b ≡ false → AnyMoment (Loads law m 0) (f a) (f (slot_a in_b current other)) (f b) (f (slot_b in_b current other))
+fresh_moments law f m a b current other in_b fresh has_a has_b going same first =
+    let P : Bool → Type 0 = λ i. AnyMoment (Loads law m 0) (f a) (f (slot_a i current other)) (f b) (f (slot_b i current other)) in
+    subst P (sym first) (any_might (Loads law m 0) (f a) (f current) (f b) (f other) (fresh_crash law m (f a) (f current) (f b) (f other) fresh has_a has_b going (ap f same)))
 
 pub none_of : (b : Option (List Crash)) → Has [] b → Now (Leaves IsNone) b
 none_of b has =

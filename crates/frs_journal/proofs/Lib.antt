@@ -11,3 +11,4 @@ pub mod SameLists
 pub mod Once
 pub mod Trims
 pub mod Openings
+pub mod Moves

@@ -7,11 +7,7 @@ use Rattle.std.specs.Int.{from_le_bytes, w64}
 use Rattle.frs_disk.proofs.Stands.{side}
 use Rattle.frs_journal.specs.Gates.{IsCleared}
 use Rattle.frs_journal.specs.Slots.{generation_of, has_magic, is_bad, is_marked, magic, takes_b, Yields}
-
--- no valid slot is there, nor one with another magic
-pub record IsNone (c : List ℕ) : Type 0 where
-  pub fine : is_bad c ≡ false
-  pub unmarked : generation_of c ≡ None
+use Rattle.frs_journal.specs.Unmade.{IsNone}
 
 unmarked_none : (c : List ℕ) → is_marked c ≡ false → IsNone c
 unfolding is_bad generation_of

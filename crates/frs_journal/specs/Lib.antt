@@ -3,8 +3,9 @@ pub mod Loads
 pub mod Gates
 pub mod Rests
 pub mod State
-pub mod Faults
 pub mod Reading
 pub mod Damage
 pub mod Picks
 pub mod Opens
+pub mod Unmade
+pub mod Faults

@@ -4,9 +4,14 @@ use Rattle.std.specs.List.{All}
 use Rattle.frs_base.specs.Machines.{Rules, Runs}
 use Rattle.frs_disk.specs.Crashes.{Crash, still}
 use Rattle.frs_disk.specs.Moments.{Now}
+use Rattle.frs_disk.specs.Alarms.{Rose}
+use Rattle.frs_journal.specs.Damage.{IsBroken}
 use Rattle.frs_journal.specs.Loads.{IsMark}
 use Rattle.frs_journal.specs.Reading.{generation_at}
 use Rattle.frs_journal.specs.Slots.{IsShort, serial_at, slot_front}
+use Rattle.frs_journal.specs.declared.faults.LoadWhy.{LoadWhy}
+use Rattle.frs_journal.specs.declared.faults.LoadWhy.TheVariants.{Memory, DiskFault, Damaged}
+use Rattle.frs_journal.specs.declared.faults.Slot.{Slot}
 
 -- both have the same header, the same records and the same gate behind them, which isn't 1
 pub record SameList (xs c : List ℕ) : Type 0 where
@@ -38,3 +43,9 @@ pub record Opens {S C : Type 0} (law : Rules S C) (fresh : S) (bytes : List ℕ)
   pub runs : Runs law.step fresh commands state
   pub count : serial ≡ (serial_at bytes + (length commands - saved)) % 2 ^ 64
   pub disk : Now (λ s. s ≡ still (slot_front (generation_at bytes) (serial_at bytes) (mark ++ map law.code commands) ++ gate ∷ [])) told
+
+-- why a slot wasn't opened, by the faults of its disk before and now
+abbrev pub OpenFault : {S C : Type 0} → Rules S C → Slot → List ℕ → LoadWhy → ℕ → ℕ → Type 0
+OpenFault law slot bytes Memory before now = Unit
+OpenFault law slot bytes (DiskFault count) before now = (count ≡ now) × Rose before now
+OpenFault law slot bytes (Damaged s offset) before now = (s ≡ slot) × IsBroken law bytes offset

@@ -5,7 +5,7 @@ use crate::faults::Slot;
 
 /// Which of two slots a load takes.
 #[derive(Clone, Copy, Debug, PartialEq, Eq)]
-pub enum Pick {
+pub(crate) enum Pick {
     Taken(Slot),
     /// Neither is valid.
     Neither,
@@ -43,7 +43,7 @@ fn head_of(slot: &[u8]) -> Head
 }
 
 /// The slot that is taken of two, by their bytes.
-pub fn choose(a: &[u8], b: &[u8]) -> Pick
+pub(crate) fn choose(a: &[u8], b: &[u8]) -> Pick
     ensures { Picks a.now b.now result }
 {
     match (head_of(a), head_of(b)) {

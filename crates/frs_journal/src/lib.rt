@@ -10,10 +10,12 @@ mod faults;
 mod fresh;
 mod journalled;
 mod laws;
+mod loading;
+mod opening;
 mod reading;
 mod slot;
 
 pub use faults::{ApplyFault, LoadFault, LoadWhy, Slot};
 pub use journalled::{Journalled, Prepared};
 pub use laws::loads_once;
-pub use slot::{append_record, clear, fill, renew};
+pub use slot::{append_record, clear, fill, renew, settle, trim};

@@ -10,7 +10,7 @@ use std::alloc::{AllocError, Global};
 
 /// What was read of a valid slot.
 #[derive(Drop)]
-pub enum Parsed<C> {
+pub(crate) enum Parsed<C> {
     /// Its commands, how many of them a checkpoint saved, and the place behind its first gate that
     /// isn't 1.
     Whole {
@@ -102,7 +102,7 @@ fn read_commands<M: Machine>(
 }
 
 /// Reads the records of a valid slot.
-pub fn read_slot<M: Machine>(
+pub(crate) fn read_slot<M: Machine>(
     alloc: Global,
     bytes: &[u8],
 ) -> Result<Parsed<M::Cmd>, AllocError>

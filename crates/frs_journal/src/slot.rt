@@ -1,10 +1,10 @@
 // What is done to the disk of a slot. Each function makes four calls of the device at most, and
 // the journal is proved from what these say alone.
-ghost use Rattle.std.specs.Prelude.{◌≡◌, ◌≤◌, ◌<◌, ◌+◌, ◌^◌, [], ◌∷◌, length, OnErr, OnOk, ◌⊎◌, ℕ};
-ghost use Rattle.frs_disk.specs.Alarms.{FailsAt, TicksUpTo};
-ghost use Rattle.frs_disk.specs.Crashes.{IsStill};
-ghost use Rattle.frs_disk.specs.Moments.{Now};
-ghost use Rattle.frs_journal.specs.Gates.{Appended, Appending, Clearing, FailsEarly, Has, IsAtRest, Renewing};
+ghost use Rattle.std.specs.Prelude.{◌≡◌, ◌≤◌, ◌<◌, ◌+◌, ◌^◌, [], ◌∷◌, length, OnErr, OnOk, IfSome};
+ghost use Rattle.frs_disk.specs.Alarms.{Ticks, TicksUpTo};
+ghost use Rattle.frs_disk.specs.Crashes.{IsStill, Stands, synced, unchanged};
+ghost use Rattle.frs_disk.specs.Moments.{Now, Stops, pushed, seen_now};
+ghost use Rattle.frs_journal.specs.Gates.{Appended, Appending, Clearing, FailsEarly, Has, HasCut, IsAtRest, Renewing, Trimming};
 
 use frs_disk::{Failed, FrsDisk, cut_synced, write_synced};
 
@@ -69,4 +69,27 @@ pub fn renew<D: FrsDisk>(disk: &mut D, body: &[u8]) -> Result<(), Failed>
         return Err(Failed);
     };
     fill(disk, body)
+}
+
+/// Cuts a slot behind its first gate that isn't 1: cut, sync.
+pub fn trim<D: FrsDisk>(disk: &mut D, end: u64) -> Result<(), Failed>
+    requires still { Now IsStill (D.states disk.old) }
+    requires within { IfSome (D.states disk.old) (λ ss. end ≤ length (seen_now ss)) }
+    requires calls { 1 < D.spare_calls disk.old }
+    ensures inside { Trimming end (D.states disk.old) (D.states disk.new) }
+    ensures done { OnOk result (HasCut end (D.states disk.old) (D.states disk.new)) }
+    ensures alarm { TicksUpTo 2 result (D.alarm disk.old) (D.alarm disk.new) }
+{
+    cut_synced(disk, end)
+}
+
+/// Makes sure that a crash leaves what a read gives, as it may not after a call that failed: sync.
+pub fn settle<D: FrsDisk>(disk: &mut D) -> Result<(), Failed>
+    requires calls { 0 < D.spare_calls disk.old }
+    ensures stood { Now Stands (D.states disk.old) }
+    ensures inside { Stops unchanged (D.states disk.old) (D.states disk.new) }
+    ensures done { OnOk result (D.states disk.new ≡ pushed synced (D.states disk.old)) }
+    ensures alarm { Ticks result (D.alarm disk.old) (D.alarm disk.new) }
+{
+    disk.sync()
 }

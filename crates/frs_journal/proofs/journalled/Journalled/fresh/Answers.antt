@@ -1,48 +1,32 @@
-use Rattle.std.proofs.Common.{refl}
-use Rattle.frs_disk.specs.Crashes.{Crash, IsStill, Leaves}
-use Rattle.frs_disk.proofs.Moments.{goes_none}
+use Rattle.std.proofs.Common.{ap}
+use Rattle.std.proofs.lemmas.Result.{IfErr-weaker, IfOk-weaker}
 use Rattle.frs_journal.specs.Loads.{Loads}
-use Rattle.frs_journal.proofs.Begins.{IsBegun, fresh_body, fresh_crash, fresh_kept, goes_from, has_none, has_still, none_of, now_from, renew_begins}
+use Rattle.frs_journal.proofs.Begins.{fresh_crash, fresh_moments, has_none, has_still, none_of}
 use Rattle.frs_journal.proofs.Commits.{any_might}
-use Rattle.frs_journal.proofs.Nones.{IsNone}
 use Rattle.frs_journal.proofs.journalled.Journalled.fresh.Goals as goal
 
-pub renew-requires-clause-still : goal.renew-requires-clause-still
-renew-requires-clause-still g c =
-    let f = g.D.FrsDisk.states in
-    now_from IsStill (f c.args.disk_a) (f c.reserve.new.self) c.reserve.ensures.states (has_still (f c.args.disk_a) c.requires.empty_a)
+pub begin-requires-clause-still : goal.begin-requires-clause-still
+begin-requires-clause-still g c = has_still (g.D.FrsDisk.states c.args.disk_a) c.requires.empty_a
 
-pub returns-in_default-clause-failed : goal.returns-in_default-clause-failed
-returns-in_default-clause-failed g c =
-    let f = g.D.FrsDisk.states in
-    let law = g.M.Machine.law in
-    let m = g.M.Machine.state c.args.machine in
-    any_might (Loads law m 0) (f c.args.disk_a) (f c.reserve.new.self) (f c.args.disk_b) (f c.args.disk_b)
-    (fresh_crash law m (f c.args.disk_a) (f c.reserve.new.self) (f c.args.disk_b) (f c.args.disk_b) c.requires.fresh c.requires.empty_a c.requires.empty_b
-    (goes_none (Leaves IsBegun) (f c.args.disk_a) (f c.reserve.new.self) c.reserve.ensures.states) refl)
+pub begin-requires-clause-none_a : goal.begin-requires-clause-none_a
+begin-requires-clause-none_a g c = has_none (g.D.FrsDisk.states c.args.disk_a) c.requires.empty_a
 
-pub returns-in_default-renew-clause-failed : goal.returns-in_default-renew-clause-failed
-returns-in_default-renew-clause-failed g c =
-    let f = g.D.FrsDisk.states in
-    let law = g.M.Machine.law in
-    let m = g.M.Machine.state c.args.machine in
-    let none = now_from (λ (s : Crash). IsNone s.seen) (f c.args.disk_a) (f c.reserve.new.self) c.reserve.ensures.states (has_none (f c.args.disk_a) c.requires.empty_a) in
-    any_might (Loads law m 0) (f c.args.disk_a) (f c.renew.new.disk) (f c.args.disk_b) (f c.args.disk_b)
-    (fresh_crash law m (f c.args.disk_a) (f c.renew.new.disk) (f c.args.disk_b) (f c.args.disk_b) c.requires.fresh c.requires.empty_a c.requires.empty_b
-    (goes_from (Leaves IsBegun) (f c.args.disk_a) (f c.reserve.new.self) (f c.renew.new.disk) c.reserve.ensures.states (renew_begins fresh_body (f c.reserve.new.self) (f c.renew.new.disk) refl none c.renew.ensures.inside)) refl)
-
-pub at_rest-requires-clause-kept : goal.at_rest-requires-clause-kept
-at_rest-requires-clause-kept g c =
-    let f = g.D.FrsDisk.states in
-    fresh_kept g.M.Machine.law (g.M.Machine.state c.args.machine) fresh_body (f c.renew.new.disk) (f c.args.disk_b)
-    c.requires.fresh refl c.in-Ok-renew.ensures.done (none_of (f c.args.disk_b) c.requires.empty_b)
+pub begin-requires-clause-none_b : goal.begin-requires-clause-none_b
+begin-requires-clause-none_b g c = none_of (g.D.FrsDisk.states c.args.disk_b) c.requires.empty_b
 
 pub returns-clause-crash : goal.returns-clause-crash
 returns-clause-crash g c =
     let f = g.D.FrsDisk.states in
+    IfOk-weaker c.begin.result _ _
+    (λ j h. fresh_moments g.M.Machine.law f (g.M.Machine.state c.args.machine) c.args.disk_a c.args.disk_b j.current j.other j.in_b c.requires.fresh c.requires.empty_a c.requires.empty_b h.0 h.1 h.2)
+    c.begin.ensures.moved
+
+pub returns-clause-failed : goal.returns-clause-failed
+returns-clause-failed g c =
+    let f = g.D.FrsDisk.states in
     let law = g.M.Machine.law in
     let m = g.M.Machine.state c.args.machine in
-    let none = now_from (λ (s : Crash). IsNone s.seen) (f c.args.disk_a) (f c.reserve.new.self) c.reserve.ensures.states (has_none (f c.args.disk_a) c.requires.empty_a) in
-    rw c.at_rest.ensures (any_might (Loads law m 0) (f c.args.disk_a) (f c.renew.new.disk) (f c.args.disk_b) (f c.args.disk_b)
-    (fresh_crash law m (f c.args.disk_a) (f c.renew.new.disk) (f c.args.disk_b) (f c.args.disk_b) c.requires.fresh c.requires.empty_a c.requires.empty_b
-    (goes_from (Leaves IsBegun) (f c.args.disk_a) (f c.reserve.new.self) (f c.renew.new.disk) c.reserve.ensures.states (renew_begins fresh_body (f c.reserve.new.self) (f c.renew.new.disk) refl none c.renew.ensures.inside)) refl))
+    IfErr-weaker c.begin.result _ _
+    (λ fault h. any_might (Loads law m 0) (f c.args.disk_a) (f fault.disk_a) (f c.args.disk_b) (f fault.disk_b)
+    (fresh_crash law m (f c.args.disk_a) (f fault.disk_a) (f c.args.disk_b) (f fault.disk_b) c.requires.fresh c.requires.empty_a c.requires.empty_b h.0 (ap f h.1)))
+    c.begin.ensures.failed
