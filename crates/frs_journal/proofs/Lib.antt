@@ -12,3 +12,4 @@ pub mod Once
 pub mod Trims
 pub mod Openings
 pub mod Moves
+pub mod Readings

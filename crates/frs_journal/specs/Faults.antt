@@ -39,3 +39,9 @@ abbrev pub IsFreshFault : LoadWhy → ℕ → ℕ → Type 0
 IsFreshFault why.Memory before now = Unit
 IsFreshFault (why.DiskFault count) before now = (count ≡ now) × Rose before now
 IsFreshFault (why.Damaged slot offset) before now = ⊥
+
+-- why two slots weren't read
+abbrev pub IsUnread : LoadWhy → Type 0
+IsUnread why.Memory = Unit
+IsUnread (why.DiskFault count) = Unit
+IsUnread (why.Damaged slot offset) = ⊥

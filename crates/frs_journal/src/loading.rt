@@ -4,6 +4,7 @@ ghost use Rattle.frs_base.specs.Machines.{IsFresh};
 ghost use Rattle.frs_disk.specs.Crashes.{IsStill, Leaves, Stands, synced, unchanged};
 ghost use Rattle.frs_disk.specs.Moments.{Now, Stops, pushed, seen_now};
 ghost use Rattle.frs_journal.specs.Damage.{DamagedIn, ReadDamaged, ReadLoads, TakenDamaged};
+ghost use Rattle.frs_journal.specs.Faults.{IsUnread};
 ghost use Rattle.frs_journal.specs.Gates.{OrSame};
 ghost use Rattle.frs_journal.specs.Loads.{AnyMoment, Loads, LoadsEither, NowLeaves};
 ghost use Rattle.frs_journal.specs.Opens.{SameList};
@@ -38,6 +39,7 @@ fn read_all<D: FrsDisk>(alloc: Global, disk: &mut D) -> Result<Vec<u8>, LoadWhy>
     ensures bytes { IfOk result (λ bytes. IfSome (D.states disk.old) (λ ss. bytes.items ≡ seen_now ss)) }
     ensures size { IfOk result (λ bytes. length bytes.items < 2 ^ 61) }
     ensures states { D.states disk.new ≡ D.states disk.old }
+    ensures why { IfErr result IsUnread }
 {
     let Ok(length) = disk.length() else {
         return Err(LoadWhy::DiskFault {
@@ -72,6 +74,7 @@ fn read_both<D: FrsDisk>(alloc: Global, a: &mut D, b: &mut D) -> Result<Slots, L
     ensures bytes_b { IfOk result (λ s. IfSome (D.states b.new) (λ ss. s.b.items ≡ seen_now ss)) }
     ensures size_a { IfOk result (λ s. length s.a.items < 2 ^ 61) }
     ensures size_b { IfOk result (λ s. length s.b.items < 2 ^ 61) }
+    ensures why { IfErr result IsUnread }
 {
     let Ok(()) = a.reserve(alloc, 1, 0) else {
         return Err(LoadWhy::Memory);
