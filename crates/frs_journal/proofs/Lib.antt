@@ -13,3 +13,4 @@ pub mod Trims
 pub mod Openings
 pub mod Moves
 pub mod Readings
+pub mod Undamaged

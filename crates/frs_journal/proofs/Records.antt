@@ -111,7 +111,6 @@ valid_head bytes small valid =
 pub slice_behind : (bytes : List ℕ) (at : ℕ) → take (length bytes - at) (drop at bytes) ≡ drop at bytes
 slice_behind bytes at = take_all (length bytes - at) (drop at bytes) (omega (arith, length-drop at bytes))
 
-
 -- a count in a payload
 byte_behind : (payload : List ℕ) (k : ℕ) → get_or (drop 1 payload) k 0 ≡ get_or payload (1 + k) 0
 byte_behind payload k = get_or-drop 1 payload k 0

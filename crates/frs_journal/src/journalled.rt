@@ -57,7 +57,7 @@ impl<M: Machine, D: FrsDisk> Model for Journalled<M, D> {
     } };
 
     ghost invariant = { λ s. (26 ≤ s.end) × (s.end ≤ 2 ^ 61)
-      × (s.shut ≡ false → Kept M.law (M.state s.machine) s.in_b s.end s.serial (D.states s.current) (D.states s.other)) };
+        × (s.shut ≡ false → Kept M.law (M.state s.machine) s.in_b s.end s.serial (D.states s.current) (D.states s.other)) };
 }
 
 /// A command that is ready to be committed: all memory for it is taken.
@@ -80,7 +80,7 @@ impl<M: Machine> Model for Prepared<M> {
     ghost view = { λ p. record { ready = p.ready; body = p.body.items } };
 
     ghost invariant = { λ p. M.law.is_cmd (M.command p.ready)
-      × (p.body.items ≡ framed (M.law.code (M.command p.ready)) ++ 0 ∷ []) };
+        × (p.body.items ≡ framed (M.law.code (M.command p.ready)) ++ 0 ∷ []) };
 }
 
 /// The bytes of a record behind its gate, with a closed gate behind them.

@@ -14,8 +14,10 @@ mod loading;
 mod opening;
 mod reading;
 mod slot;
+#[cfg(test)]
+mod tests;
 
 pub use faults::{ApplyFault, LoadFault, LoadWhy, Slot};
 pub use journalled::{Journalled, Prepared};
-pub use laws::loads_once;
+pub use laws::{loads_once, never_damaged};
 pub use slot::{append_record, clear, fill, renew, settle, trim};

@@ -26,11 +26,7 @@ pub(crate) struct Opened<M> {
 }
 
 /// The machine after these commands.
-fn run_all<M: Machine>(
-    alloc: Global,
-    machine: M,
-    commands: Vec<M::Cmd>,
-) -> Result<M, AllocError>
+fn run_all<M: Machine>(alloc: Global, machine: M, commands: Vec<M::Cmd>) -> Result<M, AllocError>
     ensures { IfOk result (λ m. Runs M.law.step (M.state machine) commands.items (M.state m)) }
 {
     let mut machine = machine;

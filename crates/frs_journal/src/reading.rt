@@ -19,7 +19,9 @@ pub(crate) enum Parsed<C> {
         end: usize,
     },
     /// From this place on it has no list.
-    Broken { offset: usize },
+    Broken {
+        offset: usize,
+    },
 }
 
 /// The payload behind an opened gate, where the record and a gate behind it are there.
