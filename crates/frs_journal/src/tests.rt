@@ -16,7 +16,7 @@ const FRESH: [u8; 26] = [
 ];
 
 /// A machine with no bytes.
-fn tape() -> Tape
+fn empty_tape() -> Tape
     ensures { result.bytes.items ≡ [] }
 {
     Tape {
@@ -42,13 +42,13 @@ fn disk_of(alloc: Global, bytes: &[u8]) -> Result<MemDisk, Fail> {
 
 /// A fresh journal.
 fn journal(alloc: Global) -> Result<Journalled<Tape, MemDisk>, Fail> {
-    let made = Journalled::fresh(alloc, tape(), MemDisk::new(alloc), MemDisk::new(alloc));
+    let made = Journalled::fresh(alloc, empty_tape(), MemDisk::new(alloc), MemDisk::new(alloc));
     Ok(made.map_err(|fault| fault.why)?)
 }
 
 /// Why these bytes of slot a, with an empty slot b, aren't loaded.
 fn refusal(alloc: Global, bytes: &[u8]) -> Result<Option<LoadWhy>, Fail> {
-    let loaded = Journalled::load(alloc, tape(), disk_of(alloc, bytes)?, MemDisk::new(alloc));
+    let loaded = Journalled::load(alloc, empty_tape(), disk_of(alloc, bytes)?, MemDisk::new(alloc));
     Ok(loaded.err().map(|fault| fault.why))
 }
 
@@ -91,7 +91,8 @@ fn a_command_is_one_record(rt: HostRuntime) -> Result<(), Fail> {
     let (mut disk_a, _) = journal.into_disks();
     let bytes = bytes_of(alloc, &mut disk_a)?;
     assert_eq!(rt; bytes.len(), 33);
-    assert_eq!(rt; bytes.as_slice()[25..], [1, 2, 0, 0, 0, 0, 7, 0]);
+    let record = &bytes.as_slice()[25..];
+    assert_eq!(rt; record, [1, 2, 0, 0, 0, 0, 7, 0].as_slice());
     Ok(())
 }
 
@@ -132,7 +133,7 @@ fn each_call_of_a_commit_stops_or_fails(rt: HostRuntime) -> Result<(), Fail> {
         );
         let (mut disk_a, disk_b) = journal.into_disks();
         assert!(rt; disk_a.crash(), "in row {row}");
-        let loaded = Journalled::load(alloc, tape(), disk_a, disk_b);
+        let loaded = Journalled::load(alloc, empty_tape(), disk_a, disk_b);
         let loaded = loaded.map_err(|fault| fault.why)?;
         assert_eq!(rt;
             loaded.state().bytes.as_slice().len(),
