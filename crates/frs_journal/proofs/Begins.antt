@@ -1,8 +1,8 @@
 -- The fresh slot is made.
-use Rattle.std.proofs.Common.{◌≡◌, ◌≤◌, ◌<◌, ◌⊎◌, ℕ, ◌+◌, ◌-◌, ◌%◌, ◌^◌, Bool, true, false, List, [], ◌∷◌, ◌++◌, length, map, refl, sym, ap, ◌∙◌, subst, arith, inl, inr, Option, Some, None, if◌then◌else◌}
+use Rattle.std.proofs.Common.{◌≡◌, ◌⊎◌, ℕ, ◌+◌, ◌-◌, ◌%◌, ◌^◌, Bool, false, List, [], ◌∷◌, ◌++◌, length, refl, sym, ap, ◌∙◌, subst, arith, inl, inr, Option, Some, None, if◌then◌else◌}
 use Rattle.std.proofs.lemmas.List.Elements.{All-nil}
 use Rattle.std.specs.Prelude.{MatchOption}
-use Rattle.frs_base.specs.Machines.{Rules, Runs}
+use Rattle.frs_base.specs.Machines.{Rules}
 use Rattle.frs_disk.specs.Crashes.{Crash, IsImage, IsStill, Leaves, still}
 use Rattle.frs_disk.specs.Moments.{Goes, Now, Since, seen_now, top}
 use Rattle.frs_disk.proofs.Moments.{goes_map, only_still}

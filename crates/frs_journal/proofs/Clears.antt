@@ -1,7 +1,7 @@
 -- A slot is emptied.
-use Rattle.std.proofs.Common.{◌≡◌, ◌≤◌, ◌<◌, ◌⊎◌, ℕ, zero, suc, ◌+◌, List, [], ◌∷◌, ◌++◌, length, take, drop, refl, sym, ap, ◌∙◌, subst, arith, inl, inr, Option, Some, None}
+use Rattle.std.proofs.Common.{◌≡◌, ◌≤◌, ℕ, List, [], ◌∷◌, length, refl, sym, ap, ◌∙◌, subst, arith, inl, inr, Option, Some, None}
 use Rattle.std.specs.Prelude.{IfSome}
-use Rattle.frs_disk.specs.Crashes.{Crash, cut_to, IsImage, IsStill, Leaves, patch, still, synced, Within, wrote}
+use Rattle.frs_disk.specs.Crashes.{Crash, cut_to, IsStill, Leaves, still, synced, Within, wrote}
 use Rattle.frs_disk.specs.Moments.{Goes, Now, pushed, seen_now, Stops, top}
 use Rattle.frs_disk.proofs.Moments.{goes_map, goes_trans}
 use Rattle.frs_disk.proofs.Images.{image_cut}

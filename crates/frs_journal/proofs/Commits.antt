@@ -1,18 +1,17 @@
 -- A command is put into the slot.
-use Rattle.std.proofs.Common.{◌≡◌, ◌≤◌, ◌<◌, ◌⊎◌, ℕ, zero, suc, ◌+◌, ◌-◌, ◌^◌, ◌%◌, Bool, true, false, List, [], ◌∷◌, ◌++◌, length, take, drop, map, refl, sym, ap, ◌∙◌, subst, arith, inl, inr, append_assoc, append-nil, Option, Some, None, length-append}
+use Rattle.std.proofs.Common.{◌≡◌, ◌≤◌, ◌⊎◌, ℕ, ◌+◌, ◌-◌, ◌^◌, ◌%◌, Bool, true, false, List, [], ◌∷◌, ◌++◌, length, take, map, refl, sym, ap, ◌∙◌, subst, arith, inl, inr, append_assoc, Option, Some, None, length-append}
 use Rattle.std.proofs.lemmas.List.{map-append, take_at}
 use Rattle.std.proofs.lemmas.List.Elements.{All-push}
 use Rattle.std.specs.List.{All}
 use Rattle.frs_base.specs.Machines.{Rules, Runs}
-use Rattle.frs_disk.specs.Alarms.{Alarm, FailsAt}
-use Rattle.frs_disk.specs.Crashes.{Crash, still, IsImage, Leaves, Within}
-use Rattle.frs_disk.specs.Moments.{top, seen_now, Now, Each, Goes, Since, MayLeave, MightLeave}
-use Rattle.frs_disk.proofs.Lasting.{since_at, since_now}
+use Rattle.frs_disk.specs.Crashes.{Crash, still, IsImage, Leaves}
+use Rattle.frs_disk.specs.Moments.{top, seen_now, Now, Goes, Since, MayLeave, MightLeave}
+use Rattle.frs_disk.proofs.Lasting.{since_at}
 use Rattle.frs_disk.proofs.Moments.{goes_map, goes_none, only_still}
-use Rattle.frs_journal.specs.Gates.{Shut, Shutting, Gated, IsAtRest, Appending, Appended}
-use Rattle.frs_journal.specs.Loads.{AnyMoment, IsMark, Loads, LoadsStep, NowLeaves, StopsAt}
+use Rattle.frs_journal.specs.Gates.{Shut, Shutting, Gated, Appending, Appended}
+use Rattle.frs_journal.specs.Loads.{AnyMoment, IsMark, Loads, LoadsStep, NowLeaves}
 use Rattle.frs_journal.specs.Rests.{Always, AtOnce, Kept, Pairs, Rests}
-use Rattle.frs_journal.specs.Slots.{head, framed, opened, slot_front, generation_of, serial_of, slot_a, slot_b, taken, Yields, IsShort, wire}
+use Rattle.frs_journal.specs.Slots.{framed, slot_front, generation_of, serial_of, slot_a, slot_b, taken, Yields, IsShort, wire}
 use Rattle.frs_journal.proofs.Fronts.{front_more, front_marked, front_serial, log_of, is_one, serial_taken}
 
 pub now_map : (P Q : Crash → Type 0) (o : Option (List Crash)) → ((s : Crash) → P s → Q s) → Now P o → Now Q o

@@ -1,9 +1,7 @@
 -- Slots and the records in them.
-use Rattle.std.proofs.Common.{◌≡◌, ◌≤◌, ◌<◌, ◌⊎◌, ℕ, zero, suc, ◌+◌, ◌^◌, Bool, true, false, List, [], ◌∷◌, ◌++◌, length, take, drop, refl, sym, ap, ◌∙◌, subst, arith, inl, inr, append_assoc, append-nil, Option, Some, None, get_or, length-append, nat_le, nat_eq, ◌&&◌, not, if◌then◌else◌}
+use Rattle.std.proofs.Common.{◌≡◌, ◌≤◌, ◌⊎◌, ℕ, zero, suc, ◌+◌, Bool, true, false, List, [], ◌∷◌, ◌++◌, length, refl, sym, ap, ◌∙◌, subst, arith, inl, inr, append_assoc, append-nil, Option, Some, None, nat_le, ◌&&◌, if◌then◌else◌}
 use Rattle.std.specs.List.{All}
-use Rattle.std.specs.Bool.{MatchBool}
 use Rattle.std.specs.Prelude.{MatchOption}
-use Rattle.std.specs.Int.{to_le_bytes, from_le_bytes, w32, w64}
 use Rattle.std.proofs.lemmas.Bool.{le-leb}
 use Rattle.frs_journal.specs.Slots.{head, framed, opened, slot_front, Holds, generation_of, serial_at, serial_by, serial_of, wire, is_bad, takes_b, taken, IsList, IsLog, slot_a, slot_b, Yields, IsShort}
 

@@ -1,12 +1,12 @@
 -- A record is put behind a closed gate.
-use Rattle.std.proofs.Common.{◌≡◌, ◌≤◌, ◌<◌, ◌⊎◌, ℕ, zero, suc, ◌+◌, List, [], ◌∷◌, ◌++◌, length, take, drop, refl, sym, ap, ◌∙◌, subst, arith, inl, inr, append_assoc, append-nil, Option, Some, None, get_or, length-append, length-drop}
-use Rattle.std.proofs.lemmas.List.{take-append-drop, take_at, drop_at, drop-drop, take_all}
-use Rattle.std.specs.Prelude.{Result, Ok, Err, OnOk, OnErr, IfSome}
+use Rattle.std.proofs.Common.{◌≡◌, ◌≤◌, ◌<◌, ℕ, suc, ◌+◌, List, [], ◌∷◌, ◌++◌, length, take, drop, refl, sym, ap, ◌∙◌, subst, arith, append_assoc, append-nil, Option, Some, None, get_or, length-append}
+use Rattle.std.proofs.lemmas.List.{take-append-drop, take_at, drop_at, take_all}
+use Rattle.std.specs.Prelude.{IfSome}
 use Rattle.std.proofs.Math.ListN.{drop_of_length-le}
 use Rattle.std.proofs.Math.Seq.{split_at}
 use Rattle.frs_disk.specs.Crashes.{Crash, IsImage, Leaves, patch, still, synced, Within, wrote}
-use Rattle.frs_disk.specs.Moments.{Each, Goes, Now, push, pushed, seen_now, Stops, top}
-use Rattle.frs_disk.proofs.Moments.{goes_map, goes_trans, goes_none}
+use Rattle.frs_disk.specs.Moments.{Goes, Now, pushed, seen_now, Stops, top}
+use Rattle.frs_disk.proofs.Moments.{goes_map, goes_trans}
 use Rattle.frs_disk.proofs.Images.{image_front, image_back, image_length}
 use Rattle.frs_journal.specs.Gates.{Shut, Shutting, IsAtRest, Gated, Appending, Appended}
 

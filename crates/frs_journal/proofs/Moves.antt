@@ -1,24 +1,23 @@
 -- One of two disks is settled and then changed, and the other one is settled.
-use Rattle.std.proofs.Common.{◌≡◌, ◌≤◌, ◌⊎◌, ℕ, ◌+◌, ◌-◌, ◌%◌, ◌^◌, Bool, true, false, List, [], ◌∷◌, ◌++◌, length, map, refl, sym, ap, ◌∙◌, subst, arith, Option, Some, None, inl, inr, if◌then◌else◌}
+use Rattle.std.proofs.Common.{◌≡◌, ◌⊎◌, ℕ, ◌+◌, ◌-◌, ◌%◌, ◌^◌, Bool, true, false, List, [], ◌∷◌, ◌++◌, length, map, refl, sym, ap, ◌∙◌, subst, arith, Option, Some, None, inl, inr, if◌then◌else◌}
 use Rattle.std.specs.Prelude.{IfSome, MatchOption}
 use Rattle.frs_base.specs.Machines.{Rules, Runs}
 use Rattle.frs_disk.specs.Crashes.{Crash, IsImage, IsStill, Leaves, Stands, Within, still, synced, unchanged}
 use Rattle.frs_disk.specs.Moments.{Goes, MayLeave, Now, Since, Stops, pushed, seen_now, top}
-use Rattle.frs_disk.proofs.Moments.{goes_map, goes_trans, only_still, still_stands}
-use Rattle.frs_journal.specs.Loads.{AnyMoment, IsMark, Loads, LoadsEither, NowLeaves}
+use Rattle.frs_disk.proofs.Moments.{goes_map, goes_trans, only_still}
+use Rattle.frs_journal.specs.Loads.{AnyMoment, Loads, LoadsEither, NowLeaves}
 use Rattle.frs_journal.specs.Gates.{OrSame}
 use Rattle.frs_journal.specs.Opens.{Opens, SameList}
 use Rattle.frs_journal.specs.State.{State, disk_a, disk_b}
 use Rattle.frs_journal.specs.Reading.{generation_at}
 use Rattle.frs_journal.specs.Rests.{Always, AtOnce, Kept, Pairs}
-use Rattle.frs_journal.specs.Slots.{Holds, IsList, IsLog, Yields, generation_of, is_bad, serial_at, serial_by, serial_of, slot_a, slot_b, slot_front, taken, takes_b, wire}
+use Rattle.frs_journal.specs.Slots.{Holds, IsList, Yields, generation_of, is_bad, serial_at, serial_by, serial_of, slot_a, slot_b, slot_front, taken, takes_b, wire}
 use Rattle.frs_journal.specs.Unmade.{IsBegun, IsNone, Opening, fresh_body}
 use Rattle.frs_journal.proofs.Begins.{fresh_is}
 use Rattle.frs_journal.proofs.Commits.{any_might, loads_slot, now_map}
 use Rattle.frs_journal.proofs.Fronts.{front_good, front_marked, front_serial_at, wire_0}
 use Rattle.frs_journal.proofs.Openings.{origin_kept}
 use Rattle.frs_journal.proofs.SameLists.{either_same}
-use Rattle.frs_journal.proofs.Trims.{stops_same}
 use Rattle.std.proofs.lemmas.List.Elements.{All-nil}
 use Rattle.frs_journal.specs.Slots.{IsShort}
 

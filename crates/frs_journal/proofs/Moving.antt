@@ -1,5 +1,5 @@
 -- From what a call's parts say to what it says.
-use Rattle.std.proofs.Common.{◌≡◌, ◌≤◌, ◌<◌, ◌⊎◌, ℕ, ◌+◌, ◌-◌, ◌%◌, ◌^◌, Bool, true, false, List, refl, sym, ap, ◌∙◌, subst, inl, inr, Option}
+use Rattle.std.proofs.Common.{◌≡◌, ◌≤◌, ℕ, ◌-◌, ◌^◌, Bool, true, false, List, refl, sym, ap, ◌∙◌, subst, inl, inr, Option}
 use Rattle.frs_base.specs.Machines.{Rules}
 use Rattle.frs_disk.specs.Alarms.{Alarm, FailsAt, Rose}
 use Rattle.frs_disk.specs.Crashes.{Crash}

@@ -1,12 +1,12 @@
 -- Two slots load to one state.
-use Rattle.std.proofs.Common.{◌≡◌, ◌≤◌, ◌<◌, ◌⊎◌, ℕ, ◌+◌, ◌-◌, ◌%◌, ◌^◌, Bool, true, false, List, [], ◌∷◌, ◌++◌, length, drop, map, refl, sym, ap, ◌∙◌, subst, append-nil, Option, Some, None}
+use Rattle.std.proofs.Common.{◌≡◌, ℕ, ◌+◌, ◌-◌, ◌%◌, ◌^◌, List, [], ◌∷◌, ◌++◌, length, drop, map, refl, sym, ap, ◌∙◌, subst, append-nil, Option, Some, None}
 use Rattle.std.specs.Int.{from_le_bytes, w64}
 use Rattle.std.specs.Prelude.{MatchOption}
 use Rattle.std.specs.List.{All}
 use Rattle.std.proofs.lemmas.List.Elements.{All-head, All-tail}
 use Rattle.frs_base.specs.Machines.{Lawful, Rules, Runs}
 use Rattle.frs_journal.specs.Loads.{Counts, IsMark, Loads}
-use Rattle.frs_journal.specs.Slots.{Holds, IsList, IsLog, generation_of, opened, serial_of, taken, takes_b}
+use Rattle.frs_journal.specs.Slots.{Holds, IsLog, generation_of, serial_of, taken}
 use Rattle.frs_journal.proofs.SameLists.{behind_head, one_list}
 
 pub holds_once : (c : List ℕ) (ps qs : List (List ℕ)) → Holds c ps → Holds c qs → ps ≡ qs

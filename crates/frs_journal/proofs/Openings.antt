@@ -1,11 +1,10 @@
 -- A slot is opened.
-use Rattle.std.proofs.Common.{◌≡◌, ◌≤◌, ◌<◌, ℕ, zero, suc, ◌+◌, ◌*◌, ◌-◌, ◌%◌, ◌^◌, List, [], ◌∷◌, ◌++◌, length, take, drop, map, append_assoc, refl, sym, ap, ◌∙◌, subst, arith, get_or, length-append, Option, Some, None}
-use Rattle.std.proofs.lemmas.List.{take-append-drop, take-take, take_at, drop_at, get_or-take, get_or-drop, length-take-le}
+use Rattle.std.proofs.Common.{◌≡◌, ◌≤◌, ◌<◌, ℕ, ◌+◌, ◌*◌, ◌-◌, ◌%◌, ◌^◌, List, [], ◌∷◌, ◌++◌, length, take, drop, map, append_assoc, refl, sym, ap, ◌∙◌, subst, arith, get_or, length-append, Option, Some, None}
+use Rattle.std.proofs.lemmas.List.{take-append-drop, take-take, take_at, get_or-take, get_or-drop, length-take-le}
 use Rattle.std.specs.Prelude.{IfSome}
-use Rattle.std.specs.List.{All}
 use Rattle.frs_base.specs.Machines.{Rules, Runs}
 use Rattle.frs_disk.specs.Crashes.{Crash, Leaves, still}
-use Rattle.frs_disk.specs.Moments.{Goes, Now, seen_now, top}
+use Rattle.frs_disk.specs.Moments.{Now, seen_now}
 use Rattle.frs_disk.proofs.Moments.{goes_map}
 use Rattle.frs_journal.specs.Gates.{HasCut, OrSame, Trimmed, Trimming}
 use Rattle.frs_journal.specs.Opens.{Opens, SameList}

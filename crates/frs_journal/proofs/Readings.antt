@@ -1,10 +1,10 @@
 -- What was read of two slots, and why they weren't opened.
-use Rattle.std.proofs.Common.{◌≡◌, ◌⊎◌, ℕ, List, refl, sym, ap, ◌∙◌, inl, inr, subst, Option, Some, None, true, false}
+use Rattle.std.proofs.Common.{◌≡◌, ℕ, List, refl, sym, ◌∙◌, inl, inr, subst, Option, Some, None}
 use Rattle.frs_base.specs.Machines.{Rules}
 use Rattle.frs_disk.specs.Crashes.{Crash, IsImage, Within, unchanged}
-use Rattle.frs_disk.specs.Moments.{Goes, MayLeave, Now, Since, Stops, top}
+use Rattle.frs_disk.specs.Moments.{Now, Since, Stops, top}
 use Rattle.frs_disk.proofs.Moments.{goes_map}
-use Rattle.frs_journal.specs.Damage.{DamagedIn, IsBroken, IsDamaged, ReadDamaged, TakenDamaged}
+use Rattle.frs_journal.specs.Damage.{DamagedIn, IsDamaged, ReadDamaged, TakenDamaged}
 use Rattle.frs_journal.specs.Faults.{IsFreshFault, IsUnread}
 use Rattle.frs_journal.specs.Loads.{AnyMoment, NowLeaves}
 use Rattle.frs_journal.specs.Opens.{OpenFault}

@@ -1,6 +1,6 @@
 -- A record behind a gate.
-use Rattle.std.proofs.Common.{◌≡◌, ◌≤◌, ◌<◌, ℕ, ◌*◌, Bool, true, false, ◌&&◌, nat_le, nat_eq, map, append-nil, drop-cons, zero, suc, ◌+◌, ◌-◌, ◌^◌, List, [], ◌∷◌, ◌++◌, length, take, drop, refl, sym, ap, ◌∙◌, subst, arith, get_or, length-append, append_assoc}
-use Rattle.std.proofs.lemmas.List.{length-take-le, length-drop, drop-drop, take-append-drop, take_at, take_all, get_or-drop, map-append, take_more}
+use Rattle.std.proofs.Common.{◌≡◌, ◌≤◌, ◌<◌, ℕ, ◌*◌, Bool, true, false, ◌&&◌, nat_le, nat_eq, map, append-nil, drop-cons, zero, suc, ◌+◌, ◌-◌, List, [], ◌∷◌, ◌++◌, length, take, drop, refl, sym, ap, ◌∙◌, subst, arith, get_or, length-append}
+use Rattle.std.proofs.lemmas.List.{length-take-le, length-drop, drop-drop, take-append-drop, take_at, take_all, get_or-drop, take_more}
 use Rattle.std.proofs.lemmas.List.Elements.{All-nil, All-push}
 use Rattle.std.proofs.lemmas.Bool.{leb-true, eqb-true, false≢true}
 use Rattle.std.proofs.Math.Seq.{take-add}
@@ -9,7 +9,7 @@ use Rattle.std.specs.List.{All}
 use Rattle.std.proofs.lemmas.Nat.{le_bytes_4, le_bytes_8, from_le_bytes-to_le_bytes_4}
 use Rattle.std.specs.Int.{to_le_bytes, from_le_bytes, w32, w64}
 use Rattle.frs_base.specs.Machines.{Rules}
-use Rattle.frs_journal.specs.Loads.{Counts, IsMark}
+use Rattle.frs_journal.specs.Loads.{Counts}
 use Rattle.frs_journal.specs.Reading.{HasCount, IsValid, LacksRecord, NoCount, ReadTo, generation_at}
 use Rattle.frs_journal.specs.Slots.{head, magic, framed, opened, slot_front, is_marked, has_magic, IsShort, serial_at}
 use Rattle.frs_journal.proofs.Commits.{payloads_more}

@@ -1,7 +1,7 @@
 -- A new slot is put in the place of an older one.
-use Rattle.std.proofs.Common.{◌≡◌, ◌⊎◌, ℕ, List, [], ◌∷◌, ◌++◌, refl, sym, ap, ◌∙◌, subst, inl, inr, Option, Some, None}
-use Rattle.frs_disk.specs.Crashes.{Crash, Leaves, still}
-use Rattle.frs_disk.specs.Moments.{Goes, Now, seen_now, top}
+use Rattle.std.proofs.Common.{◌⊎◌, ℕ, List, [], ◌∷◌, refl, sym, subst, inl, inr, Option, Some, None}
+use Rattle.frs_disk.specs.Crashes.{Crash, Leaves}
+use Rattle.frs_disk.specs.Moments.{Goes, seen_now}
 use Rattle.frs_disk.proofs.Moments.{goes_map, goes_trans}
 use Rattle.frs_journal.specs.Gates.{Gated, IsCleared, Clearing, Renewing, Appending, Appended, Has}
 

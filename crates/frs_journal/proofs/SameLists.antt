@@ -1,16 +1,16 @@
 -- The list of a slot depends on its records and its first gate that isn't 1 alone.
-use Rattle.std.proofs.Common.{◌≡◌, ◌<◌, ◌⊎◌, ℕ, ◌+◌, ◌-◌, ◌%◌, ◌^◌, Bool, true, false, List, [], ◌∷◌, ◌++◌, length, drop, take, map, refl, sym, ap, ◌∙◌, subst, append_assoc, Option, Some, None, inl, inr, get_or, if◌then◌else◌, ◌&&◌}
+use Rattle.std.proofs.Common.{◌≡◌, ℕ, ◌+◌, ◌-◌, ◌%◌, ◌^◌, Bool, true, false, List, [], ◌∷◌, ◌++◌, length, drop, take, map, refl, sym, ap, ◌∙◌, subst, append_assoc, Option, Some, None, inl, inr, get_or, if◌then◌else◌, ◌&&◌}
 use Rattle.std.proofs.lemmas.List.{drop_at}
 use Rattle.std.proofs.lemmas.List.Elements.{All-head, All-tail}
 use Rattle.std.specs.Int.{from_le_bytes, w64}
 use Rattle.std.specs.List.{All}
 use Rattle.std.specs.Prelude.{MatchOption}
-use Rattle.frs_base.specs.Machines.{Rules, Runs}
+use Rattle.frs_base.specs.Machines.{Rules}
 use Rattle.frs_journal.specs.Loads.{Loads, LoadsEither}
 use Rattle.frs_journal.specs.Opens.{SameList}
 use Rattle.frs_journal.specs.Reading.{IsValid}
 use Rattle.frs_journal.specs.Slots.{Holds, IsList, IsLog, IsShort, framed, generation_of, has_magic, head, is_bad, is_marked, opened, serial_of, slot_a, slot_b, slot_front, taken, takes_b, wire}
-use Rattle.frs_journal.proofs.Fronts.{front_good, front_marked, front_serial, length_framed}
+use Rattle.frs_journal.proofs.Fronts.{front_good, front_marked, front_serial}
 use Rattle.frs_journal.proofs.Records.{framed_same}
 
 -- one slot has one list

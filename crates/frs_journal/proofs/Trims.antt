@@ -1,11 +1,8 @@
 -- A slot is settled, and cut behind its first gate that isn't 1.
-use Rattle.std.proofs.Common.{◌≡◌, ◌≤◌, ◌<◌, ◌⊎◌, ℕ, zero, suc, ◌+◌, List, [], ◌∷◌, ◌++◌, length, take, drop, refl, sym, ap, ◌∙◌, subst, arith, inl, inr, append_assoc, Option, Some, None, get_or, length-append, length-drop}
-use Rattle.std.proofs.lemmas.List.{take_at, drop_at}
-use Rattle.std.proofs.lemmas.List.Elements.{All-head, All-tail}
-use Rattle.std.specs.List.{All}
+use Rattle.std.proofs.Common.{◌≡◌, ◌≤◌, ◌⊎◌, ℕ, List, [], ◌∷◌, length, sym, subst, inl, inr, Option, Some, None}
 use Rattle.std.specs.Prelude.{IfSome}
-use Rattle.frs_disk.specs.Crashes.{Crash, cut_to, IsImage, IsStill, Leaves, still, synced, unchanged, Within}
-use Rattle.frs_disk.specs.Moments.{Goes, Now, pushed, seen_now, Stops, top}
+use Rattle.frs_disk.specs.Crashes.{Crash, cut_to, IsImage, IsStill, Leaves, synced, unchanged, Within}
+use Rattle.frs_disk.specs.Moments.{Now, pushed, seen_now, Stops, top}
 use Rattle.frs_disk.proofs.Moments.{goes_map, within_synced}
 use Rattle.frs_disk.proofs.Images.{image_cut}
 use Rattle.frs_journal.specs.Gates.{Trimmed, Trimming, HasCut}

@@ -1,5 +1,5 @@
 -- The first wrong place of two slots.
-use Rattle.std.specs.Prelude.{ℕ, ◌≡◌, ◌≢◌, ◌⊎◌, List, Bool, true, false, Option, Some, None}
+use Rattle.std.specs.Prelude.{ℕ, ◌≡◌, ◌≢◌, ◌⊎◌, List, true, false, Option, None}
 use Rattle.frs_base.specs.Machines.{Rules}
 use Rattle.frs_journal.specs.Reading.{CountsTooMany, IsWhole, LacksRecord}
 use Rattle.frs_disk.specs.Crashes.{Crash, IsImage}

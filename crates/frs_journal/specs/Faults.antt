@@ -1,6 +1,6 @@
 -- When each fault of a journal may come.
-use Rattle.std.specs.Prelude.{ℕ, ◌≡◌, ◌≤◌, ◌<◌, ◌⊎◌, ◌^◌, Bool, true}
-use Rattle.frs_disk.specs.Alarms.{Alarm, Rose}
+use Rattle.std.specs.Prelude.{ℕ, ◌≡◌, ◌≤◌, ◌<◌, ◌^◌, Bool, true}
+use Rattle.frs_disk.specs.Alarms.{Rose}
 use Rattle.frs_journal.specs.declared.faults.ApplyFault.{ApplyFault}
 use Rattle.frs_journal.specs.declared.faults.ApplyFault.TheVariants.{Memory, DiskFault, JournalFull, Shut}
 use Rattle.frs_journal.specs.declared.faults.LoadWhy.{LoadWhy}

@@ -1,8 +1,8 @@
 -- A slot's last gate.
-use Rattle.std.specs.Prelude.{ℕ, ◌≡◌, ◌≤◌, ◌<◌, ◌⊎◌, ◌+◌, List, [], ◌∷◌, ◌++◌, length, take, Option, Some, None}
+use Rattle.std.specs.Prelude.{ℕ, ◌≡◌, ◌≤◌, ◌<◌, ◌⊎◌, List, [], ◌∷◌, ◌++◌, length, take, Option, Some, None}
 use Rattle.frs_disk.specs.Alarms.{Alarm, FailsAt}
 use Rattle.frs_disk.specs.Crashes.{Crash, Leaves, still}
-use Rattle.frs_disk.specs.Moments.{Goes, Now, seen_now, top}
+use Rattle.frs_disk.specs.Moments.{Goes, Now, seen_now}
 
 -- the slot ends with a gate at this place that isn't 1, all of it on the disk
 pub record IsAtRest (gate : ℕ) (s : Crash) : Type 0 where

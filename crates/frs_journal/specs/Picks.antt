@@ -1,5 +1,5 @@
 -- Which slot a load takes.
-use Rattle.std.specs.Prelude.{ℕ, ◌≡◌, Bool, true, false, List, Option, Some, None}
+use Rattle.std.specs.Prelude.{ℕ, ◌≡◌, true, false, List, Some, None}
 use Rattle.frs_journal.specs.Slots.{generation_of, is_bad, takes_b}
 use Rattle.frs_journal.specs.declared.choice.Head.{Head}
 use Rattle.frs_journal.specs.declared.choice.Head.TheVariants as head

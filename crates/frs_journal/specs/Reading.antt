@@ -1,5 +1,5 @@
 -- How the records of a slot are read.
-use Rattle.std.specs.Prelude.{ℕ, ◌≡◌, ◌≢◌, ◌≤◌, ◌<◌, ◌+◌, ◌-◌, List, [], ◌∷◌, ◌++◌, length, take, drop, map, get_or, true, ◌&&◌, Option, Some, None}
+use Rattle.std.specs.Prelude.{ℕ, ◌≡◌, ◌≢◌, ◌≤◌, ◌<◌, ◌+◌, ◌-◌, List, ◌∷◌, ◌++◌, length, take, drop, map, get_or, true, ◌&&◌}
 use Rattle.std.specs.List.{All}
 use Rattle.std.specs.Int.{from_le_bytes, w64}
 use Rattle.frs_base.specs.Machines.{Rules}

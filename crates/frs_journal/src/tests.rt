@@ -42,13 +42,23 @@ fn disk_of(alloc: Global, bytes: &[u8]) -> Result<MemDisk, Fail> {
 
 /// A fresh journal.
 fn journal(alloc: Global) -> Result<Journalled<Tape, MemDisk>, Fail> {
-    let made = Journalled::fresh(alloc, empty_tape(), MemDisk::new(alloc), MemDisk::new(alloc));
+    let made = Journalled::fresh(
+        alloc,
+        empty_tape(),
+        MemDisk::new(alloc),
+        MemDisk::new(alloc),
+    );
     Ok(made.map_err(|fault| fault.why)?)
 }
 
 /// Why these bytes of slot a, with an empty slot b, aren't loaded.
 fn refusal(alloc: Global, bytes: &[u8]) -> Result<Option<LoadWhy>, Fail> {
-    let loaded = Journalled::load(alloc, empty_tape(), disk_of(alloc, bytes)?, MemDisk::new(alloc));
+    let loaded = Journalled::load(
+        alloc,
+        empty_tape(),
+        disk_of(alloc, bytes)?,
+        MemDisk::new(alloc),
+    );
     Ok(loaded.err().map(|fault| fault.why))
 }
 

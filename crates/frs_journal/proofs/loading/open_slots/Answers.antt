@@ -1,4 +1,4 @@
-use Rattle.std.proofs.Common.{sym, ap, ◌≡◌, inl, false, true}
+use Rattle.std.proofs.Common.{sym, ap, inl, false, true}
 use Rattle.std.proofs.lemmas.Result.{IfOk-weaker}
 use Rattle.frs_journal.specs.Slots.{Yields, generation_of}
 use Rattle.frs_journal.specs.Unmade.{IsNone}

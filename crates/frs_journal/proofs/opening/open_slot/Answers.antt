@@ -1,5 +1,4 @@
-use Rattle.std.proofs.Common.{rules, ◌≡◌, arith, ◌+◌, ◌-◌, ◌%◌, ◌^◌, ℕ, length, ◌<◌, refl}
-use Rattle.frs_disk.proofs.Ringing.{fails_at_rose}
+use Rattle.std.proofs.Common.{rules, ◌≡◌, arith, ◌+◌, ◌-◌, ◌%◌, ◌^◌, length}
 use Rattle.frs_journal.specs.Slots.{serial_at}
 use Rattle.frs_journal.proofs.Openings.{open_done, open_inside, opened_size, origin_kept}
 use Rattle.frs_journal.proofs.opening.open_slot.Goals as goal

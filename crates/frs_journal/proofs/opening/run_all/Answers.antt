@@ -1,4 +1,4 @@
-use Rattle.std.proofs.Common.{rules, ◌≡◌, List, ℕ, ◌∷◌, [], ap, sym, subst, ◌∙◌, length, arith, refl}
+use Rattle.std.proofs.Common.{rules, ◌≡◌, List, ◌∷◌, [], sym, subst, length, arith, refl}
 use Rattle.frs_base.specs.Machines.{Runs}
 use Rattle.frs_journal.proofs.opening.run_all.Goals as goal
 

@@ -1,4 +1,4 @@
-use Rattle.std.proofs.Common.{rules, ◌≡◌, ℕ, length, get_or}
+use Rattle.std.proofs.Common.{rules, ◌≡◌, length, get_or}
 use Rattle.frs_journal.proofs.Records.{counts_in}
 use Rattle.frs_journal.proofs.reading.count_in.Goals as goal
 

@@ -1,4 +1,4 @@
-use Rattle.std.proofs.Common.{rules, ◌≡◌, ℕ, get_or, Option, Some, None}
+use Rattle.std.proofs.Common.{rules, ◌≡◌, get_or, Option, Some, None}
 use Rattle.std.specs.Prelude.{IfNone}
 use Rattle.std.proofs.lemmas.Option.{IfSome_then}
 use Rattle.frs_journal.proofs.Records.{has_count, no_count_off, no_count_other, slice_behind}

@@ -1,4 +1,4 @@
-use Rattle.std.proofs.Common.{rules, ◌≡◌, ◌<◌, get_or, ◌+◌, ◌-◌, ◌++◌, List, ℕ, length, take, drop, arith, ap, sym, ◌∙◌, subst, length-drop}
+use Rattle.std.proofs.Common.{rules, ◌≡◌, ◌<◌, get_or, ◌+◌, ◌-◌, ◌++◌, ℕ, length, take, drop, arith, sym, subst, length-drop}
 use Rattle.std.proofs.lemmas.List.{length-take-le}
 use Rattle.frs_journal.specs.Slots.{framed}
 use Rattle.frs_journal.proofs.Records.{record_whole, record_short, record_none}

@@ -1,5 +1,4 @@
-use Rattle.std.proofs.Common.{rules, ◌≡◌, ◌≤◌, ◌<◌, ◌+◌, ◌-◌, ◌++◌, ◌∷◌, [], get_or, List, ℕ, length, take, drop, arith, ap, sym, ◌∙◌, subst, inl, inr, refl}
-use Rattle.frs_journal.specs.Reading.{ReadTo}
+use Rattle.std.proofs.Common.{◌+◌, inl}
 use Rattle.frs_journal.proofs.Records.{broken_here, broken_off, read_more, slice_behind}
 use Rattle.frs_journal.proofs.reading.read_commands.Goals as goal
 

@@ -1,9 +1,7 @@
-use Rattle.std.proofs.Common.{rules, ◌≡◌, ◌<◌, ◌+◌, ◌⊎◌, ℕ, arith, inl, inr, Result, Ok, Err}
-use Rattle.std.proofs.lemmas.Result.{MatchResult-weaker, on_err_weaker}
-use Rattle.std.specs.Prelude.{MatchResult}
-use Rattle.frs_disk.specs.Alarms.{Alarm, FailsAt, Passes, TicksUpTo}
+use Rattle.std.proofs.Common.{◌+◌, arith, inl, inr}
+use Rattle.std.proofs.lemmas.Result.{MatchResult-weaker}
 use Rattle.frs_disk.proofs.Ringing.{passes_on, fails_on}
-use Rattle.frs_journal.proofs.Gated.{appending_first, appending_second, appended, first_within, second_within, shutting}
+use Rattle.frs_journal.proofs.Gated.{appending_first, appending_second, shutting}
 use Rattle.frs_journal.proofs.slot.append_record.Goals as goal
 
 pub returns-in_default-clause-inside : goal.returns-in_default-clause-inside

@@ -1,4 +1,4 @@
-use Rattle.std.proofs.Common.{◌<◌, ◌+◌, ℕ, arith}
+use Rattle.std.proofs.Common.{◌+◌, arith}
 use Rattle.std.proofs.lemmas.Result.{MatchResult-weaker, on_ok_weaker}
 use Rattle.frs_disk.proofs.Ringing.{fails_on, passes_on}
 use Rattle.frs_journal.proofs.Renews.{renewing_clear, renewing_fill, renewed}

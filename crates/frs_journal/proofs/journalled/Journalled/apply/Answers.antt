@@ -1,8 +1,7 @@
-use Rattle.std.proofs.Common.{rules, ◌≡◌, ◌≤◌, ◌+◌, ◌^◌, List, ℕ, Bool, false, length, refl, sym, ap, ◌∙◌, subst, ◌⊎◌, inl, arith}
+use Rattle.std.proofs.Common.{rules, ◌≡◌, ◌≤◌, ◌+◌, ◌^◌, List, ℕ, false, length, ap, inl, arith}
 use Rattle.std.proofs.lemmas.Result.{IfErr-weaker, MatchResult-weaker}
 use Rattle.frs_disk.specs.Alarms.{Alarm}
-use Rattle.frs_journal.specs.Faults.{IsApplyFault, IsCommitFault, IsDiskFault}
-use Rattle.frs_journal.specs.Loads.{Loads, LoadsStep, StopsAt}
+use Rattle.frs_journal.specs.Loads.{Loads, LoadsStep}
 use Rattle.frs_journal.specs.Slots.{slot_a, slot_b}
 use Rattle.frs_journal.proofs.Commits.{kept_leaves, now_leaves_map}
 use Rattle.frs_journal.proofs.Moving.{commit_fault, moments_from, no_device, refused_crash, refused_fault, slot_a_same, slot_b_same, steps_from, stops_from}

@@ -1,4 +1,4 @@
-use Rattle.std.proofs.Common.{rules, ◌≡◌, ◌+◌, ◌-◌, ◌%◌, subst, ◌++◌, ◌∷◌, [], ◌<◌, ◌≤◌, List, ◌^◌, ℕ, Bool, false, length, refl, sym, ap, ◌∙◌, arith, length-append}
+use Rattle.std.proofs.Common.{rules, ◌≡◌, ◌+◌, ◌%◌, subst, ◌++◌, ◌∷◌, [], ◌≤◌, List, ◌^◌, ℕ, false, length, refl, ap, ◌∙◌, arith, length-append}
 use Rattle.frs_disk.proofs.Ringing.{fails_at_rose}
 use Rattle.frs_journal.specs.Loads.{Loads, LoadsStep}
 use Rattle.frs_journal.specs.Rests.{Kept}

@@ -1,4 +1,4 @@
-use Rattle.std.proofs.Common.{rules, ◌≡◌, false, Bool}
+use Rattle.std.proofs.Common.{rules, ◌≡◌, false}
 use Rattle.frs_journal.specs.Loads.{Loads}
 use Rattle.frs_journal.proofs.Commits.{kept_leaves, once_now}
 use Rattle.frs_journal.proofs.journalled.Journalled.state.Goals as goal
