@@ -1,0 +1,10 @@
+pub mod Crashes
+pub mod Moments
+pub mod Alarms
+pub mod Starts
+pub mod Sums
+pub mod Histories
+pub mod History
+pub mod Memory
+pub mod Reached
+pub mod Racks

@@ -1,0 +1,16 @@
+pub mod Fronts
+pub mod Gated
+pub mod Clears
+pub mod Renews
+pub mod Commits
+pub mod Nones
+pub mod Begins
+pub mod Moving
+pub mod Records
+pub mod SameLists
+pub mod Once
+pub mod Trims
+pub mod Openings
+pub mod Moves
+pub mod Readings
+pub mod Undamaged

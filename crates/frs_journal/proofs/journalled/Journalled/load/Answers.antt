@@ -1,0 +1,35 @@
+use Rattle.std.proofs.lemmas.Result.{IfErr-weaker, IfOk-weaker}
+use Rattle.frs_journal.specs.Loads.{LoadsEither}
+use Rattle.frs_journal.proofs.Moves.{load_crash, seen_before}
+use Rattle.frs_journal.proofs.Readings.{settle_crash, unread_damaged}
+use Rattle.frs_journal.proofs.journalled.Journalled.load.Goals as goal
+
+pub returns-in-Ok-clause-crash : goal.returns-in-Ok-clause-crash
+returns-in-Ok-clause-crash g c =
+    let f = g.D.FrsDisk.states in
+    let e = c.in-Ok.ensures in
+    let s = c.in-Ok.slots in
+    IfOk-weaker c.open_slots.result _ _
+    (λ j opens m n k l now. load_crash g.M.Machine.law m n k l s.a.items s.b.items (f c.args.disk_a) (f c.read_both.new.a) _ (f c.args.disk_b) (f c.read_both.new.b) _ now
+    (seen_before s.a.items (f c.args.disk_a) (f c.read_both.new.a) e.stood_a e.settled_a e.bytes_a) (seen_before s.b.items (f c.args.disk_b) (f c.read_both.new.b) e.stood_b e.settled_b e.bytes_b)
+    c.read_both.ensures.inside_a c.read_both.ensures.inside_b opens)
+    c.open_slots.ensures.opened
+
+pub returns-in-Ok-clause-failed : goal.returns-in-Ok-clause-failed
+returns-in-Ok-clause-failed g c =
+    let f = g.D.FrsDisk.states in
+    let e = c.in-Ok.ensures in
+    let s = c.in-Ok.slots in
+    IfErr-weaker c.open_slots.result _ _
+    (λ fault opens m n k l now. load_crash g.M.Machine.law m n k l s.a.items s.b.items (f c.args.disk_a) (f c.read_both.new.a) _ (f c.args.disk_b) (f c.read_both.new.b) _ now
+    (seen_before s.a.items (f c.args.disk_a) (f c.read_both.new.a) e.stood_a e.settled_a e.bytes_a) (seen_before s.b.items (f c.args.disk_b) (f c.read_both.new.b) e.stood_b e.settled_b e.bytes_b)
+    c.read_both.ensures.inside_a c.read_both.ensures.inside_b opens)
+    c.open_slots.ensures.failed
+
+pub returns-in-Err-clause-failed : goal.returns-in-Err-clause-failed
+returns-in-Err-clause-failed g c = λ m n k l now.
+    (let f = g.D.FrsDisk.states in
+    settle_crash (LoadsEither g.M.Machine.law m k n l) (f c.args.disk_a) (f c.read_both.new.a) (f c.args.disk_b) (f c.read_both.new.b) now c.read_both.ensures.inside_a c.read_both.ensures.inside_b)
+
+pub returns-in-Err-clause-damaged : goal.returns-in-Err-clause-damaged
+returns-in-Err-clause-damaged g c = unread_damaged g.M.Machine.law c.in-Err.why (g.D.FrsDisk.states c.args.disk_a) (g.D.FrsDisk.states c.args.disk_b) c.in-Err.ensures.why

@@ -1,0 +1,47 @@
+-- When each fault of a journal may come.
+use Rattle.std.specs.Prelude.{ℕ, ◌≡◌, ◌≤◌, ◌<◌, ◌^◌, Bool, true}
+use Rattle.frs_disk.specs.Alarms.{Rose}
+use Rattle.frs_journal.specs.declared.faults.ApplyFault.{ApplyFault}
+use Rattle.frs_journal.specs.declared.faults.ApplyFault.TheVariants.{Memory, DiskFault, JournalFull, Shut}
+use Rattle.frs_journal.specs.declared.faults.LoadWhy.{LoadWhy}
+use Rattle.frs_journal.specs.declared.faults.LoadWhy.TheVariants as why
+
+-- a call of the device failed
+abbrev pub IsDiskFault : ApplyFault → Type 0
+IsDiskFault Memory = ⊥
+IsDiskFault (DiskFault count) = Unit
+IsDiskFault (JournalFull length) = ⊥
+IsDiskFault Shut = ⊥
+
+-- by whether the journal was shut, the length that the slot would have, and the disk's faults before and now
+abbrev pub IsApplyFault : ApplyFault → Bool → ℕ → ℕ → ℕ → Type 0
+IsApplyFault Memory was_shut length before now = Unit
+IsApplyFault (DiskFault count) was_shut length before now = (count ≡ now) × Rose before now × (length ≤ 2 ^ 32)
+IsApplyFault (JournalFull n) was_shut length before now = (n ≡ length) × (2 ^ 32 < n)
+IsApplyFault Shut was_shut length before now = was_shut ≡ true
+
+-- the same of a call that makes no call of the device
+abbrev pub IsRefused : ApplyFault → Bool → ℕ → Type 0
+IsRefused Memory was_shut length = Unit
+IsRefused (DiskFault count) was_shut length = ⊥
+IsRefused (JournalFull n) was_shut length = (n ≡ length) × (2 ^ 32 < n)
+IsRefused Shut was_shut length = was_shut ≡ true
+
+-- the fault of a commit
+abbrev pub IsCommitFault : ApplyFault → ℕ → ℕ → Type 0
+IsCommitFault Memory before now = ⊥
+IsCommitFault (DiskFault count) before now = (count ≡ now) × Rose before now
+IsCommitFault (JournalFull n) before now = ⊥
+IsCommitFault Shut before now = ⊥
+
+-- the fault of a fresh journal, by the faults of slot a's disk before and now
+abbrev pub IsFreshFault : LoadWhy → ℕ → ℕ → Type 0
+IsFreshFault why.Memory before now = Unit
+IsFreshFault (why.DiskFault count) before now = (count ≡ now) × Rose before now
+IsFreshFault (why.Damaged slot offset) before now = ⊥
+
+-- why two slots weren't read
+abbrev pub IsUnread : LoadWhy → Type 0
+IsUnread why.Memory = Unit
+IsUnread (why.DiskFault count) = Unit
+IsUnread (why.Damaged slot offset) = ⊥

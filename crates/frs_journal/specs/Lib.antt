@@ -1,0 +1,11 @@
+pub mod Slots
+pub mod Loads
+pub mod Gates
+pub mod Rests
+pub mod State
+pub mod Reading
+pub mod Damage
+pub mod Picks
+pub mod Opens
+pub mod Unmade
+pub mod Faults

@@ -1,0 +1,156 @@
+ghost use Rattle.std.specs.Prelude.{◌≡◌, []};
+
+mod tape;
+
+use crate::{ApplyFault, Journalled, LoadWhy, Slot};
+use frs_base::ReservedVec;
+use frs_disk::{FrsDisk, Image, MemDisk, ScriptDisk, write_synced};
+use std::alloc::Global;
+use std::test::Fail;
+use tape::Tape;
+
+/// The fresh slot: the header gate, the magic, generation 1, serial 0 and a closed gate.
+const FRESH: [u8; 26] = [
+    0x01, 0x46, 0x52, 0x53, 0x4a, 0x52, 0x4e, 0x30, 0x31, 0x01, 0, 0, 0, 0, 0, 0, 0, 0, 0, 0, 0, 0,
+    0, 0, 0, 0,
+];
+
+/// A machine with no bytes.
+fn empty_tape() -> Tape
+    ensures { result.bytes.items ≡ [] }
+{
+    Tape {
+        bytes: ReservedVec::empty(),
+    }
+}
+
+/// The bytes of a disk.
+fn bytes_of(alloc: Global, disk: &mut MemDisk) -> Result<Vec<u8>, Fail> {
+    let length = disk.length()?;
+    let mut bytes = vec![in alloc; 0; length as usize]?;
+    disk.read(0, bytes.as_mut_slice())?;
+    Ok(bytes)
+}
+
+/// A disk with these bytes, all of them synced.
+fn disk_of(alloc: Global, bytes: &[u8]) -> Result<MemDisk, Fail> {
+    let mut disk = MemDisk::new(alloc);
+    disk.reserve(alloc, 2, bytes.len() as u64)?;
+    write_synced(&mut disk, 0, bytes)?;
+    Ok(disk)
+}
+
+/// A fresh journal.
+fn journal(alloc: Global) -> Result<Journalled<Tape, MemDisk>, Fail> {
+    let made = Journalled::fresh(
+        alloc,
+        empty_tape(),
+        MemDisk::new(alloc),
+        MemDisk::new(alloc),
+    );
+    Ok(made.map_err(|fault| fault.why)?)
+}
+
+/// Why these bytes of slot a, with an empty slot b, aren't loaded.
+fn refusal(alloc: Global, bytes: &[u8]) -> Result<Option<LoadWhy>, Fail> {
+    let loaded = Journalled::load(
+        alloc,
+        empty_tape(),
+        disk_of(alloc, bytes)?,
+        MemDisk::new(alloc),
+    );
+    Ok(loaded.err().map(|fault| fault.why))
+}
+
+#[test]
+fn fresh_slot(rt: HostRuntime) -> Result<(), Fail> {
+    let alloc = rt.alloc();
+    let (mut disk_a, mut disk_b) = journal(alloc)?.into_disks();
+    assert_eq!(rt; bytes_of(alloc, &mut disk_a)?.as_slice(), FRESH.as_slice());
+    assert_eq!(rt; disk_b.length()?, 0);
+    Ok(())
+}
+
+#[test]
+fn open_last_gate_and_bad_magic(rt: HostRuntime) -> Result<(), Fail> {
+    let alloc = rt.alloc();
+    let mut opened = FRESH;
+    opened[25] = 1;
+    let why = LoadWhy::Damaged {
+        slot: Slot::A,
+        offset: 25,
+    };
+    assert_eq!(rt; refusal(alloc, &opened)?, Some(why));
+    let mut other = FRESH;
+    other[8] = 0x32;
+    let why = LoadWhy::Damaged {
+        slot: Slot::A,
+        offset: 1,
+    };
+    assert_eq!(rt; refusal(alloc, &other)?, Some(why));
+    Ok(())
+}
+
+#[test]
+fn a_command_is_one_record(rt: HostRuntime) -> Result<(), Fail> {
+    let alloc = rt.alloc();
+    let mut journal = journal(alloc)?;
+    journal.apply(alloc, 7)?;
+    assert_eq!(rt; (journal.end(), journal.serial()), (33, 1));
+    assert_eq!(rt; journal.state().bytes.as_slice(), [7].as_slice());
+    let (mut disk_a, _) = journal.into_disks();
+    let bytes = bytes_of(alloc, &mut disk_a)?;
+    assert_eq!(rt; bytes.len(), 33);
+    let record = &bytes.as_slice()[25..];
+    assert_eq!(rt; record, [1, 2, 0, 0, 0, 0, 7, 0].as_slice());
+    Ok(())
+}
+
+#[test]
+fn each_call_of_a_commit_stops_or_fails(rt: HostRuntime) -> Result<(), Fail> {
+    let alloc = rt.alloc();
+    let rows = [
+        (1, Some(Image::With), 0),
+        (1, Some(Image::Without), 0),
+        (1, None, 0),
+        (2, Some(Image::With), 0),
+        (2, Some(Image::Without), 0),
+        (2, None, 0),
+        (3, Some(Image::With), 1),
+        (3, Some(Image::Without), 0),
+        (3, None, 0),
+        (4, Some(Image::With), 1),
+        (4, Some(Image::Without), 0),
+        (4, None, 1),
+    ];
+    for (row, (call, image, want)) in rows.iter().enumerate() {
+        let mut journal = journal(alloc)?;
+        let armed = match image {
+            Some(image) => journal.arm(*call, *image),
+            None => journal.fail(*call),
+        };
+        assert!(rt; armed, "in row {row}");
+        let fault = journal.apply(alloc, 7).err();
+        assert_eq!(rt;
+            fault,
+            Some(ApplyFault::DiskFault { count: 1 }),
+            "in row {row}"
+        );
+        assert_eq!(rt;
+            journal.apply(alloc, 8).err(),
+            Some(ApplyFault::Shut),
+            "in row {row}"
+        );
+        let (mut disk_a, disk_b) = journal.into_disks();
+        assert!(rt; disk_a.crash(), "in row {row}");
+        let loaded = Journalled::load(alloc, empty_tape(), disk_a, disk_b);
+        let loaded = loaded.map_err(|fault| fault.why)?;
+        assert_eq!(rt;
+            loaded.state().bytes.as_slice().len(),
+            *want,
+            "in row {row}"
+        );
+        assert_eq!(rt; loaded.serial(), *want as u64, "in row {row}");
+    }
+    Ok(())
+}
