@@ -106,7 +106,7 @@ module _ {K V : Type 0} {cmp : K → K → Ordering} (o : IsTotalOrder cmp) wher
           let s : e ≡ x = cc in
           let here : find (is_above cmp e.0) (e ∷ es) ≡ find (is_above cmp e.0) es = ap (λ t. cond t (Some e) (find (is_above cmp e.0) es)) (not_above_itself o e.0) in
           subst (λ (y : K × V). find (is_above cmp y.0) (e ∷ es) ≡ slice_get (filter (is_from cmp k) es) 0) s
-              (here ∙ find_high e.0 es up.0 ∙ sym (ap (λ l. slice_get l 0) (filter_high k es (high_from k e es le up.0))))
+          (here ∙ find_high e.0 es up.0 ∙ sym (ap (λ l. slice_get l 0) (filter_high k es (high_from k e es le up.0))))
       by true le (suc n) got more = let k1 : suc n + 1 ≡ suc (n + 1) = omega arith in lower n got ∙ more n got ∙ sym (ap (slice_get (e ∷ filter (is_from cmp k) es)) k1)
       by false le n got more = lower n got ∙ more n got
 

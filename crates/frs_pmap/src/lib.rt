@@ -1,9 +1,7 @@
-//! Finite maps whose copies share memory, and tables that hand such maps out.
+//! Finite maps whose copies share memory.
 //!
-//! Read [`Pmap`] first: a map that never changes, of which a copy is made for the cost of one
-//! count. A [`Table`] is changed in its place, and gives the entries that it has as a [`Pmap`] for
-//! the work of what changed since it last did. Both keep their entries in order of the keys, and
-//! contracts see both as the list of the entries in that order.
+//! Read [`Pmap`]: a map that never changes, and of which a copy costs one count. Its entries are in
+//! order of their keys, and a contract sees them as the list in that order.
 #![tactic(auto)]
 
 mod beyond;
@@ -14,3 +12,6 @@ mod root;
 mod row;
 
 pub use map::Pmap;
+
+#[cfg(test)]
+mod tests;
