@@ -47,12 +47,9 @@ many_written item Fits is out (x ∷ xs) fits =
     let place : length (item.appends out x) ≡ length out + length w.text = ap length w.parts ∙ length-append out w.text in
     (w.text ++ v.0, v.1 ∙ ap (λ (r : List ℕ). r ++ v.0) w.parts ∙ append_assoc out w.text v.0, (w.text, v.0, refl, w.spells, subst (λ (at : ℕ). SpellsMany item.Spells at xs v.0) place v.2))
 
-many_sized : {A : Type 0} (item : Item A) (Fits : A → Type 0) → IsLawful item Fits → (at : ℕ) (xs : List A) (x y : List ℕ) → SpellsMany item.Spells at xs x → SpellsMany item.Spells at xs y → length x ≡ length y
-many_sized item Fits is at [] x y s t = ap length s ∙ sym (ap length t)
-many_sized item Fits is at (v ∷ vs) x y s t =
-    let one : length s.0 ≡ length t.0 = is.sized at v s.0 t.0 s.3 t.3 in
-    let two : length s.1 ≡ length t.1 = many_sized item Fits is (at + length t.0) vs s.1 t.1 (subst (λ (n : ℕ). SpellsMany item.Spells (at + n) vs s.1) one s.4) t.4 in
-    omega (arith, one, two, ap length s.2, length-append s.0 s.1, ap length t.2, length-append t.0 t.1)
+many_sized : {A : Type 0} (item : Item A) (Fits : A → Type 0) → IsLawful item Fits → (x y : List ℕ) (xs : List A) → length x ≡ length y → length (appends_many item.appends x xs) ≡ length (appends_many item.appends y xs)
+many_sized item Fits is x y [] e = e
+many_sized item Fits is x y (v ∷ vs) e = many_sized item Fits is (item.appends x v) (item.appends y v) vs (is.sized x y v e)
 
 pub many_lawful : {A : Type 0} (item : Item A) (count : ℕ) (Fits : A → Type 0) → IsLawful item Fits → IsLawful (many item count) (λ xs. (length xs ≡ count) × AllByRecursion Fits xs)
 many_lawful item count Fits is = record {
@@ -61,7 +58,7 @@ many_lawful item count Fits is = record {
   written = λ out xs fits.
       let w = many_written item Fits is out xs fits.1 in
       record { text = w.0; parts = w.1; spells = (fits.0, w.2) };
-  sized = λ at xs x y s t. many_sized item Fits is at xs x y s.1 t.1;
+  sized = many_sized item Fits is;
 }
 
 pub lawful_many : {A : Type 0} {item : Item A} {Fits : A → Type 0} (count : ℕ) → IsLawful item Fits → IsLawful (many item count) (λ xs. (length xs ≡ count) × AllByRecursion Fits xs)
@@ -83,7 +80,7 @@ conformant_lawful limit = record {
   written = λ out a fits.
       let w = number_32_lawful.written out a fits.1 in
       record { text = w.text; parts = w.parts; spells = (fits.0, w.spells) };
-  sized = λ at a x y s t. number_32_lawful.sized at a x y s.1 t.1;
+  sized = number_32_lawful.sized;
 }
 
 -- offset and count
@@ -113,5 +110,5 @@ varying_lawful limit = record {
   written = λ out a fits.
       let w = span_lawful.written out (0, a) (lit< tt, fits.1) in
       record { text = w.text; parts = w.parts; spells = (fits.0, w.spells) };
-  sized = λ at a x y s t. span_lawful.sized at (0, a) x y s.1 t.1;
+  sized = λ x y a e. span_lawful.sized x y (0, a) e;
 }

@@ -7,7 +7,7 @@ use Rattle.std.proofs.lemmas.Nat.{le_bytes_2, le_bytes_4, le_bytes_8, from_le_by
 use Rattle.ndr_core.specs.declared.refusal.NdrBad.{NdrBad}
 use Rattle.ndr_core.specs.declared.refusal.NdrBad.TheVariants.{Count, Short, Value}
 use Rattle.ndr_core.specs.Cursor.{Cursor}
-use Rattle.ndr_core.specs.Items.{AreBytes, bytes_of, chunk, number, padded, padding, skip, zeros}
+use Rattle.ndr_core.specs.Items.{AreBytes, bytes_of, chunk, number, number_at, padded, padding, skip, zeros}
 use Rattle.ndr_core.specs.Laws.{IsLawful, Took, Wrote}
 use Rattle.ndr_core.proofs.Steps.{bind_ok, guard_ok, good_ok, done, ok_is, AreBytes-drop, AreBytes-take}
 use Rattle.ndr_core.proofs.Words.{seen_lawful}
@@ -57,8 +57,18 @@ chunk_written size count out a fits = record {
   spells = (zeros (padding size (length out)), length-replicate (padding size (length out)), fits.0, fits.1, refl);
 }
 
+zeros_size : (size : ℕ) (x y : List ℕ) → length x ≡ length y → length (x ++ zeros (padding size (length x))) ≡ length (y ++ zeros (padding size (length y)))
+zeros_size size x y e =
+    let p : padding size (length x) ≡ padding size (length y) = ap (padding size) e in
+    length-append x (zeros (padding size (length x))) ∙ omega (arith, e, p, length-replicate (padding size (length x)), length-replicate (padding size (length y))) ∙ sym (length-append y (zeros (padding size (length y))))
+
+padded_size : (size : ℕ) (x y a : List ℕ) → length x ≡ length y → length (x ++ zeros (padding size (length x)) ++ a) ≡ length (y ++ zeros (padding size (length y)) ++ a)
+padded_size size x y a e =
+    let p = zeros_size size x y e in
+    length-append (x ++ zeros (padding size (length x))) a ∙ ap (λ (n : ℕ). n + length a) p ∙ sym (length-append (y ++ zeros (padding size (length y))) a)
+
 pub chunk_lawful : (size count : ℕ) → IsLawful (chunk size count) (HasBytes count)
-chunk_lawful size count = record { sound = chunk_sound size count; whole = chunk_whole size count; written = chunk_written size count; sized = λ at a x y s t. omega (arith, ap length s.4, length-append s.0 a, s.1, ap length t.4, length-append t.0 a, t.1) }
+chunk_lawful size count = record { sound = chunk_sound size count; whole = chunk_whole size count; written = chunk_written size count; sized = λ x y a e. padded_size size x y a e }
 
 -- ---- bytes and reserved bytes
 
@@ -81,7 +91,7 @@ bytes_of_lawful count = record {
       let long : ltb (length (text ++ rest)) count ≡ false = le-ltb _ _ (omega (arith, length-append text rest)) in
       rw (long, take_at text rest count size_is, drop_at text rest count size_is, size_is, spells.2) refl;
   written = λ out a fits. record { text = a; parts = refl; spells = (fits.0, fits.1, refl) };
-  sized = λ at a x y s t. ap length s.2 ∙ sym (ap length t.2);
+  sized = λ x y a e. omega (arith, e, length-append x a, length-append y a);
 }
 
 pub skip_lawful : (count : ℕ) → IsLawful (skip count) (λ a. Unit {0})
@@ -102,7 +112,7 @@ skip_lawful count = record {
       let long : ltb (length (text ++ rest)) count ≡ false = le-ltb _ _ (omega (arith, length-append text rest)) in
       rw (long, drop_at text rest count spells, spells) refl;
   written = λ out a fits. record { text = zeros count; parts = refl; spells = length-replicate count };
-  sized = λ at a x y s t. s ∙ sym t;
+  sized = λ x y a e. omega (arith, e, length-append x (zeros count), length-append y (zeros count));
 }
 
 pub padded_lawful : (size : ℕ) → IsLawful (padded size) (λ a. Unit {0})
@@ -112,7 +122,7 @@ padded_lawful size = record {
       record { text = t.text; parts = t.parts; place = t.place; bytes = t.bytes; spells = t.spells };
   whole = λ at a text rest spells. (skip_lawful (padding size at)).whole at a text rest spells;
   written = λ out a fits. record { text = zeros (padding size (length out)); parts = refl; spells = length-replicate (padding size (length out)) };
-  sized = λ at a x y s t. s ∙ sym t;
+  sized = λ x y a e. zeros_size size x y e;
 }
 
 -- ---- numbers
@@ -139,19 +149,22 @@ record IsWide (w : Width) (limit : ℕ) : Type 0 where
   back : (bytes : List ℕ) → length bytes ≡ byte_len w → AreBytes bytes → to_le_bytes w (from_le_bytes w bytes) ≡ bytes
   again : (n : ℕ) → n < limit → from_le_bytes w (to_le_bytes w n) ≡ n
 
-number_lawful_by : (w : Width) (limit : ℕ) → IsWide w limit → IsLawful (number w) (λ n. n < limit)
-number_lawful_by w limit wide =
-    let is = seen_lawful (from_le_bytes w) (to_le_bytes w) (chunk (byte_len w) (byte_len w)) (HasBytes (byte_len w)) (chunk_lawful (byte_len w) (byte_len w)) (λ at a text spells. wide.back a spells.2 spells.3) in
+number_lawful_by : (size : ℕ) (w : Width) (limit : ℕ) → IsWide w limit → IsLawful (number_at size w) (λ n. n < limit)
+number_lawful_by size w limit wide =
+    let is = seen_lawful (from_le_bytes w) (to_le_bytes w) (chunk size (byte_len w)) (HasBytes (byte_len w)) (chunk_lawful size (byte_len w)) (λ at a text spells. wide.back a spells.2 spells.3) in
     record { sound = is.sound; whole = is.whole; written = λ out n lt. is.written out n (wide.again n lt, (wide.len n, wide.small n)); sized = is.sized }
 
 pub number_32_lawful : IsLawful (number w32) (λ n. n < 2 ^ 32)
-number_32_lawful = number_lawful_by w32 (2 ^ 32) (record { len = λ n. refl; small = λ n. small_bytes 0 4 n; back = λ bytes len fits. le_bytes_4 bytes _ len fits refl; again = λ n lt. from_le_bytes-to_le_bytes_4 n lt })
+number_32_lawful = number_lawful_by 4 w32 (2 ^ 32) (record { len = λ n. refl; small = λ n. small_bytes 0 4 n; back = λ bytes len fits. le_bytes_4 bytes _ len fits refl; again = λ n lt. from_le_bytes-to_le_bytes_4 n lt })
 
 pub number_64_lawful : IsLawful (number w64) (λ n. n < 2 ^ 64)
-number_64_lawful = number_lawful_by w64 (2 ^ 64) (record { len = λ n. refl; small = λ n. small_bytes 0 8 n; back = λ bytes len fits. le_bytes_8 bytes _ len fits refl; again = λ n lt. from_le_bytes-to_le_bytes_8 n lt })
+number_64_lawful = number_lawful_by 8 w64 (2 ^ 64) (record { len = λ n. refl; small = λ n. small_bytes 0 8 n; back = λ bytes len fits. le_bytes_8 bytes _ len fits refl; again = λ n lt. from_le_bytes-to_le_bytes_8 n lt })
 
 pub number_16_lawful : IsLawful (number w16) (λ n. n < 2 ^ 16)
-number_16_lawful = number_lawful_by w16 (2 ^ 16) (record { len = λ n. refl; small = λ n. small_bytes 0 2 n; back = λ bytes len fits. le_bytes_2 bytes _ len fits refl; again = λ n lt. from_le_bytes-to_le_bytes_2 n lt })
+number_16_lawful = number_lawful_by 2 w16 (2 ^ 16) (record { len = λ n. refl; small = λ n. small_bytes 0 2 n; back = λ bytes len fits. le_bytes_2 bytes _ len fits refl; again = λ n lt. from_le_bytes-to_le_bytes_2 n lt })
+
+pub number_8_at_lawful : (size : ℕ) → IsLawful (number_at size w8) (λ n. n < 2 ^ 8)
+number_8_at_lawful size = number_lawful_by size w8 (2 ^ 8) (record { len = λ n. refl; small = λ n. small_bytes 0 1 n; back = one_byte; again = λ n lt. omega arith })
 
 pub number_8_lawful : IsLawful (number w8) (λ n. n < 2 ^ 8)
-number_8_lawful = number_lawful_by w8 (2 ^ 8) (record { len = λ n. refl; small = λ n. small_bytes 0 1 n; back = one_byte; again = λ n lt. omega arith })
+number_8_lawful = number_8_at_lawful 1

@@ -6,7 +6,7 @@ use Rattle.std.proofs.lemmas.List.{append-nil}
 use Rattle.ndr_core.specs.Cursor.{Cursor}
 use Rattle.ndr_core.specs.Items.{◌>>=◌, AreBytes, Item, followed, number}
 use Rattle.ndr_core.specs.Laws.{IsLawful, Took, Wrote}
-use Rattle.ndr_core.specs.Pointers.{is_some, optional, referent, unique, when}
+use Rattle.ndr_core.specs.Pointers.{append_if, is_some, optional, referent, unique, when}
 use Rattle.ndr_core.proofs.Steps.{bind_ok, done, ok_is}
 use Rattle.ndr_core.proofs.Words.{lawful_seen, lawful_then, lawful_where}
 use Rattle.ndr_core.proofs.Bytes.{number_32_lawful}
@@ -30,8 +30,7 @@ unique_lawful = record {
   written = λ out present fits.
       let w = number_32_lawful.written out (referent present) (referent_small present) in
       record { text = w.text; parts = w.parts; spells = (referent present, referent_is present, w.spells) };
-  sized = λ at present x y s t.
-      omega (arith, ap length s.2.1.4, length-append s.2.1.0 (to_le_bytes w32 s.0), s.2.1.1, s.2.1.2, ap length t.2.1.4, length-append t.2.1.0 (to_le_bytes w32 t.0), t.2.1.1, t.2.1.2);
+  sized = λ x y present e. number_32_lawful.sized x y (referent present) e;
 }
 
 abbrev FitsWhen : {A : Type 0} → (A → Type 0) → Bool → Option A → Type 0
@@ -47,8 +46,9 @@ none_written : {A : Type 0} (item : Item A) (Fits : A → Type 0) (out : List �
 none_written item Fits out None fits = record { text = []; parts = sym (append-nil out); spells = (refl, refl) }
 none_written item Fits out (Some a) fits = let e : true ≡ false = fits.0 in absurd cc
 
-some_one : {A : Type 0} (v : Option A) (a b : A) → v ≡ Some a → v ≡ Some b → a ≡ b
-some_one v a b p q = cc
+if_sized : {A : Type 0} (item : Item A) (Fits : A → Type 0) → IsLawful item Fits → (x y : List ℕ) (v : Option A) → length x ≡ length y → length (append_if item.appends x v) ≡ length (append_if item.appends y v)
+if_sized item Fits is x y None e = e
+if_sized item Fits is x y (Some a) e = is.sized x y a e
 
 when_lawful : {A : Type 0} (item : Item A) (Fits : A → Type 0) → IsLawful item Fits → (present : Bool) → IsLawful (when present item) (FitsWhen Fits present)
 when_lawful {A = A} item Fits is true = record {
@@ -61,7 +61,7 @@ when_lawful {A = A} item Fits is true = record {
       ap (λ r. r >>= λ x. done {A = Option A × Cursor} (Some x.0, x.1)) (is.whole at s.0 text rest s.2)
       ∙ ap (λ (u : Option A). done {A = Option A × Cursor} (u, record { at = at + length text; rest = rest })) (sym s.1);
   written = λ out v fits. there_written item Fits is out v fits;
-  sized = λ at v x y s t. is.sized at t.0 x y (subst (λ (a : A). item.Spells at a x) (some_one v s.0 t.0 s.1 t.1) s.2) t.2;
+  sized = if_sized item Fits is;
 }
 when_lawful {A = A} item Fits is false = record {
   sound = λ old new v are e.
@@ -72,7 +72,7 @@ when_lawful {A = A} item Fits is false = record {
       let bytes : text ++ rest ≡ rest = ap (λ (t : List ℕ). t ++ rest) s.1 in
       λ i. done {A = Option A × Cursor} (sym s.0 i, record { at = place i; rest = bytes i });
   written = λ out v fits. none_written item Fits out v fits;
-  sized = λ at v x y s t. ap length (s.1 ∙ sym t.1);
+  sized = if_sized item Fits is;
 }
 
 same_present : {A : Type 0} (item : Item A) (at : ℕ) (present : Bool) (v : Option A) (text : List ℕ) → (when present item).Spells at v text → is_some v ≡ present

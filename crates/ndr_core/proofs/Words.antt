@@ -22,7 +22,7 @@ seen_lawful {A = A} {B = B} to from item Fits is back = record {
   written = λ out b fits.
       let w = is.written out (from b) fits.1 in
       record { text = w.text; parts = w.parts; spells = (fits.0, w.spells) };
-  sized = λ at b x y s t. is.sized at (from b) x y s.1 t.1;
+  sized = λ x y b e. is.sized x y (from b) e;
 }
 
 pub followed_lawful : {A B : Type 0} (first : Item A) (second : A → Item B) (Fits : A → Type 0) (Fits2 : A → B → Type 0) → IsLawful first Fits → ((a : A) → IsLawful (second a) (Fits2 a))
@@ -54,10 +54,7 @@ followed_lawful {A = A} {B = B} first second Fits Fits2 is are2 = record {
         parts = v.parts ∙ ap (λ (r : List ℕ). r ++ v.text) w.parts ∙ append_assoc out w.text v.text;
         spells = (w.text, v.text, refl, w.spells, subst (λ (at : ℕ). (second ab.0).Spells at ab.1 v.text) place v.spells);
       };
-  sized = λ at ab x y s t.
-      let one : length s.0 ≡ length t.0 = is.sized at ab.0 s.0 t.0 s.3 t.3 in
-      let two : length s.1 ≡ length t.1 = (are2 ab.0).sized (at + length t.0) ab.1 s.1 t.1 (subst (λ (n : ℕ). (second ab.0).Spells (at + n) ab.1 s.1) one s.4) t.4 in
-      omega (arith, one, two, ap length s.2, length-append s.0 s.1, ap length t.2, length-append t.0 t.1);
+  sized = λ x y ab e. (are2 ab.0).sized (first.appends x ab.0) (first.appends y ab.0) ab.1 (is.sized x y ab.0 e);
 }
 
 pub checked_lawful : {A : Type 0} (size : ℕ) (good : A → Bool) (item : Item A) (Fits : A → Type 0) → IsLawful item Fits → IsLawful (checked size good item) (λ a. (good a ≡ true) × Fits a)
@@ -72,7 +69,7 @@ checked_lawful {A = A} size good item Fits is = record {
   written = λ out a fits.
       let w = is.written out a fits.1 in
       record { text = w.text; parts = w.parts; spells = (fits.0, w.spells) };
-  sized = λ at a x y s t. is.sized at a x y s.1 t.1;
+  sized = is.sized;
 }
 
 short_ok : {A : Type 0} (at : ℕ) (read : Result A NdrBad) (x : A) → short_at at read ≡ Ok x → read ≡ Ok x
@@ -114,7 +111,7 @@ lawful_fixed {item = item} {Fits = Fits} size n is = record {
   written = λ out a fits.
       let w = is.written out n fits in
       record { text = w.text; parts = w.parts; spells = w.spells };
-  sized = λ at a x y s t. is.sized at n x y s t;
+  sized = λ x y a e. is.sized x y n e;
 }
 
 pub lawful_together : {A : Type 0} {item : Item A} {Fits : A → Type 0} (size : ℕ) → IsLawful item Fits → IsLawful (together size item) Fits
@@ -126,5 +123,5 @@ lawful_together {A = A} {item = item} {Fits = Fits} size is = record {
   written = λ out a fits.
       let w = is.written out a fits in
       record { text = w.text; parts = w.parts; spells = w.spells };
-  sized = λ at a x y s t. is.sized at a x y s t;
+  sized = is.sized;
 }

@@ -120,6 +120,10 @@ together size item = record {
 
 -- ---- numbers
 
--- a number of so many bytes, aligned to its size, its least byte first
+-- a number of so many bytes, its least byte first, behind padding to a multiple
+abbrev pub number_at : ℕ → Width → Item ℕ
+number_at size w = seen (from_le_bytes w) (to_le_bytes w) (chunk size (byte_len w))
+
+-- aligned to its own size
 abbrev pub number : Width → Item ℕ
-number w = seen (from_le_bytes w) (to_le_bytes w) (chunk (byte_len w) (byte_len w))
+number w = number_at (byte_len w) w

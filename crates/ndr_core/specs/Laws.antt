@@ -18,12 +18,12 @@ pub record Wrote {A : Type 0} (item : Item A) (out : List ℕ) (a : A) : Type 0 
   pub parts : item.appends out a ≡ out ++ text
   pub spells : item.Spells (length out) a text
 
--- what is read is spelled; what is spelled is read, whatever follows; what is written is spelled; and the texts of one value at one place have one length
+-- what is read is spelled; what is spelled is read, whatever follows; what is written is spelled; and a value takes as many bytes behind any as many
 pub record IsLawful {A : Type 0} (item : Item A) (Fits : A → Type 0) : Type 0 where
   pub sound : (old new : Cursor) (a : A) → AreBytes old.rest → item.reads old ≡ Ok (a, new) → Took item old a new
   pub whole : (at : ℕ) (a : A) (text rest : List ℕ) → item.Spells at a text → item.reads (record { at = at; rest = text ++ rest }) ≡ Ok (a, record { at = at + length text; rest = rest })
   pub written : (out : List ℕ) (a : A) → Fits a → Wrote item out a
-  pub sized : (at : ℕ) (a : A) (x y : List ℕ) → item.Spells at a x → item.Spells at a y → length x ≡ length y
+  pub sized : (x y : List ℕ) (a : A) → length x ≡ length y → length (item.appends x a) ≡ length (item.appends y a)
 
 -- ---- whole bytes
 

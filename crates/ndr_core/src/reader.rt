@@ -1,7 +1,7 @@
 // Taking items off bytes, one behind the other.
 ghost use Rattle.std.specs.Prelude.{◌≡◌, ◌==◌, ◌+◌, ◌<◌, ◌^◌, ◌⊎◌, length};
 ghost use Rattle.std.specs.Int.{w8, w16, w32, w64};
-ghost use Rattle.ndr_core.specs.Items.{bytes_of, chunk, number, padded, padding, skip};
+ghost use Rattle.ndr_core.specs.Items.{bytes_of, chunk, number, number_at, padded, padding, skip};
 ghost use Rattle.ndr_core.specs.Calls.{Reads, Takes, TakesOrMemory};
 ghost use Rattle.ndr_core.specs.Arrays.{conformant, span, varying};
 ghost use Rattle.ndr_core.specs.Identifiers.{guid_item, handle_fields, handle_item, uuid_item};
@@ -110,6 +110,14 @@ impl<'a> Reader<'a> {
         ensures { Takes (λ x. x) (number w8) result self.old self.new }
     {
         Ok(u8::from_le_bytes(self.take_chunk(1)?))
+    }
+
+    /// A byte that is aligned like a longer item.
+    pub fn take_u8_behind(&mut self, to: u32) -> Result<u8, NdrBad>
+        requires { (to ≡ 4) ⊎ (to ≡ 8) }
+        ensures { Takes (λ x. x) (number_at to w8) result self.old self.new }
+    {
+        Ok(u8::from_le_bytes(self.take_chunk(to as usize)?))
     }
 
     /// A number of two bytes.

@@ -1,7 +1,7 @@
 // Writing items, one behind the other.
 ghost use Rattle.std.specs.Prelude.{◌≡◌, ◌<◌, ◌⊎◌, OnOk, [], length};
 ghost use Rattle.std.specs.Int.{w8, w16, w32, w64};
-ghost use Rattle.ndr_core.specs.Items.{bytes_of, chunk, number, padded, skip};
+ghost use Rattle.ndr_core.specs.Items.{bytes_of, chunk, number, number_at, padded, skip};
 ghost use Rattle.ndr_core.specs.Calls.{Writes};
 ghost use Rattle.ndr_core.specs.Arrays.{conformant, varying};
 ghost use Rattle.ndr_core.specs.Identifiers.{guid_item, handle_item, uuid_item};
@@ -79,6 +79,14 @@ impl Writer {
         ensures { Writes (number w8) value result self.old self.new }
     {
         self.put_chunk(1, &value.to_le_bytes())
+    }
+
+    /// A byte that is aligned like a longer item.
+    pub fn put_u8_behind(&mut self, to: u32, value: u8) -> Result<(), AllocError>
+        requires { (to ≡ 4) ⊎ (to ≡ 8) }
+        ensures { Writes (number_at to w8) value result self.old self.new }
+    {
+        self.put_chunk(to as usize, &value.to_le_bytes())
     }
 
     /// A number of two bytes.
