@@ -31,7 +31,7 @@ fn raw_of(alloc: Global, r: &mut Reader) -> Result<(u32, u32, Vec<u16>), NdrErro
     ensures { ReadsOrMemory (λ x. ((x.0, x.1), x.2.items)) raw_string result r.old r.new }
 {
     let (offset, count) = r.span()?;
-    let units = take_many(alloc, r, count)?;
+    let units = take_many::<u16>(alloc, r, count)?;
     Ok((offset, count, units))
 }
 
@@ -78,7 +78,7 @@ impl Writer {
         ensures { OnOk result (self.new ≡ (string (length units.now + 1)).appends self.old units.now) }
     {
         self.put_varying(units.len() as u32 + 1)?;
-        put_many(self, units)?;
+        put_many::<u16>(self, units)?;
         self.put_u16(0)
     }
 }

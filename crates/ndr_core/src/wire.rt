@@ -8,29 +8,32 @@ ghost use Rattle.ndr_core.specs.declared.refusal.NdrBad.{NdrBad};
 use crate::{NdrError, Reader, Writer};
 use std::alloc::{AllocError, Global};
 
-/// A value that is one item, as the elements of an array are.
-pub trait Wire: Sized + Drop {
-    /// How its item is read.
-    ghost reads: { Cursor → Result (Self × Cursor) NdrBad };
+/// A kind of item, as the elements of an array are. Mostly the type of the value itself.
+pub trait Wire {
+    /// What the item is the value of.
+    type Value: Drop;
 
-    /// How its item is written behind bytes.
-    ghost appends: { List ℕ → Self → List ℕ };
+    /// How the item is read.
+    ghost reads: { Cursor → Result (Self.Value × Cursor) NdrBad };
 
-    /// What the item has room for.
-    ghost fits: { Self → Bool };
+    /// How it is written behind bytes.
+    ghost appends: { List ℕ → Self.Value → List ℕ };
 
-    /// Takes its item off the bytes.
-    fn take(alloc: Global, r: &mut Reader) -> Result<Self, NdrError>
+    /// What it has room for.
+    ghost fits: { Self.Value → Bool };
+
+    /// Takes the item off the bytes.
+    fn take(alloc: Global, r: &mut Reader) -> Result<Self::Value, NdrError>
         ensures { ReadsBy (λ x. x) reads result r.old r.new };
 
-    /// Writes its item.
-    fn put(&self, out: &mut Writer) -> Result<(), AllocError>
-        requires { fits self.now ≡ true }
-        ensures { OnOk result (out.new ≡ appends out.old self.now) };
+    /// Writes it.
+    fn put(value: &Self::Value, out: &mut Writer) -> Result<(), AllocError>
+        requires { fits value.now ≡ true }
+        ensures { OnOk result (out.new ≡ appends out.old value.now) };
 }
 
 /// So many values, one behind the other. Memory is taken as they come.
-pub fn take_many<T: Wire>(alloc: Global, r: &mut Reader, count: u32) -> Result<Vec<T>, NdrError>
+pub fn take_many<T: Wire>(alloc: Global, r: &mut Reader, count: u32) -> Result<Vec<T::Value>, NdrError>
     ensures read { ReadsBy (λ x. x.items) (reads_many T.reads count) result r.old r.new }
     ensures counted { IfOk result (λ x. length x.items ≡ count) }
 {
@@ -43,17 +46,19 @@ pub fn take_many<T: Wire>(alloc: Global, r: &mut Reader, count: u32) -> Result<V
 }
 
 /// Each value of a list, one behind the other.
-pub fn put_many<T: Wire>(out: &mut Writer, values: &[T]) -> Result<(), AllocError>
+pub fn put_many<T: Wire>(out: &mut Writer, values: &[T::Value]) -> Result<(), AllocError>
     requires { all_fit T.fits values.now ≡ true }
     ensures { OnOk result (out.new ≡ appends_many T.appends out.old values.now) }
 {
     for value in values {
-        value.put(out)?;
+        T::put(value, out)?;
     }
     Ok(())
 }
 
 impl Wire for u16 {
+    type Value = u16;
+
     ghost use Rattle.std.specs.Prelude.{true};
     ghost use Rattle.std.specs.Int.{w16};
     ghost use Rattle.ndr_core.specs.Items.{number};
@@ -68,7 +73,7 @@ impl Wire for u16 {
         Ok(r.take_u16()?)
     }
 
-    fn put(&self, out: &mut Writer) -> Result<(), AllocError> {
-        out.put_u16(*self)
+    fn put(value: &u16, out: &mut Writer) -> Result<(), AllocError> {
+        out.put_u16(*value)
     }
 }
