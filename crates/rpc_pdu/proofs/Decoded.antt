@@ -12,8 +12,10 @@ use Rattle.rpc_pdu.specs.declared.pdu.Pdu.{Pdu}
 use Rattle.rpc_pdu.specs.declared.pdu.PduBody.{PduBody}
 use Rattle.rpc_pdu.specs.declared.refusal.PduBad.{PduBad}
 use Rattle.rpc_pdu.specs.declared.refusal.PduBad.TheVariants.{Version, Kind, Drep, Length, Auth}
+use Rattle.rpc_pdu.specs.declared.refusal.PduError.{PduError}
+use Rattle.rpc_pdu.specs.declared.refusal.PduError.TheVariants as errors
 use Rattle.rpc_pdu.specs.Headers.{header_item, is_kind, judged}
-use Rattle.rpc_pdu.specs.Decoding.{after_header, begun, body_reads, decoded, if_good, with_body}
+use Rattle.rpc_pdu.specs.Decoding.{FailsOrMemory, after_header, begun, body_reads, decoded, if_good, with_body}
 use Rattle.rpc_pdu.specs.Laws.{PdusAreReadAsSpelled, WhatIsReadIsSpelled}
 use Rattle.rpc_pdu.specs.Spelling.{Spells}
 use Rattle.rpc_pdu.proofs.Bodies.{behind, body_back, body_read}
@@ -41,6 +43,11 @@ decoded_is bytes h after e = ap (after_header bytes) e
 pub no_header : (bytes : List ℕ) (e : NdrBad) → header_item.reads (start bytes) ≡ Err e → decoded bytes ≡ Ok None
 unfolding decoded
 no_header bytes e h = ap (after_header bytes) h
+
+-- a body that is refused refuses the PDU
+pub body_fails : (h : Header) (e : PduError) (read : Result PduBody PduBad) → FailsOrMemory e read → FailsOrMemory e (with_body h read)
+body_fails h errors.Memory read f = tt
+body_fails h (errors.Bad bad) read f = ap (with_body h) f
 
 -- ---- what is spelled is read
 

@@ -1,5 +1,5 @@
 -- The header and the bodies keep the laws of items.
-use Rattle.std.proofs.Common.{◌≡◌, ◌∙◌, ℕ, ◌+◌, ◌-◌, ◌<◌, ◌^◌, ◌++◌, List, Result, Ok, length, refl, sym, ap, lit<}
+use Rattle.std.proofs.Common.{◌≡◌, ◌∙◌, ℕ, ◌+◌, ◌-◌, ◌<◌, ◌^◌, ◌++◌, List, Result, Ok, length, refl, sym, ap, append_assoc, arith, length-append, lit<}
 use Rattle.std.proofs.lemmas.List.{append-nil}
 use Rattle.std.specs.Int.{w16}
 use Rattle.ndr_core.specs.Items.{◌>>=◌, followed, number, skip}
@@ -61,15 +61,18 @@ address_lawful : IsLawful address (λ none. Unit {0})
 address_lawful = record {
   sound = λ old new a are e.
       let g = bind_ok ((number w16).reads old) (λ size. (skip size.0).reads size.1) (a, new) e in
-      let both : (followed (number w16) skip).reads old ≡ Ok ((g.0.0, tt), new) = rw (g.1, g.2) refl in
-      let t = sized_address.sound old new (g.0.0, tt) are both in
+      let both : (followed (number w16) skip).reads old ≡ Ok ((g.0.0, a), new) =
+      ap (λ r. r >>= λ x. (skip x.0).reads x.1 >>= λ y. done ((x.0, y.0), y.1)) g.1 ∙ ap (λ r. r >>= λ y. done ((g.0.0, y.0), y.1)) g.2 in
+      let t = sized_address.sound old new (g.0.0, a) are both in
       record { text = t.text; parts = t.parts; place = t.place; bytes = t.bytes; spells = (g.0.0, t.spells) };
   whole = λ at a text rest spells.
-      let both = sized_address.whole at (spells.0, tt) text rest spells.1 in
-      let g = bind_ok ((number w16).reads (record { at = at; rest = text ++ rest })) (λ x. (skip x.0).reads x.1 >>= λ y. done ((x.0, y.0), y.1)) ((spells.0, tt), record { at = at + length text; rest = rest }) both in
-      let h = bind_ok ((skip g.0.0).reads g.0.1) (λ y. done ((g.0.0, y.0), y.1)) ((spells.0, tt), record { at = at + length text; rest = rest }) g.2 in
-      let after : h.0.1 ≡ record { at = at + length text; rest = rest } = ap (λ (p : (ℕ × Unit {0}) × Cursor). p.1) (ok_is ((g.0.0, h.0.0), h.0.1) ((spells.0, tt), record { at = at + length text; rest = rest }) h.2) in
-      rw (g.1, h.1, after) refl;
+      let s = spells.1 in
+      let regroup : text ++ rest ≡ s.0 ++ (s.1 ++ rest) = ap (λ (t : List ℕ). t ++ rest) s.2 ∙ append_assoc s.0 s.1 rest in
+      let size = number_16_lawful.whole at spells.0 s.0 (s.1 ++ rest) s.3 in
+      let skipped = (skip_lawful spells.0).whole (at + length s.0) a s.1 rest s.4 in
+      let place : at + length s.0 + length s.1 ≡ at + length text = omega (arith, ap length s.2, length-append s.0 s.1) in
+      ap (λ (t : List ℕ). address.reads (record { at = at; rest = t })) regroup ∙ ap (λ r. r >>= λ x. (skip x.0).reads x.1) size ∙ skipped
+      ∙ ap (λ (n : ℕ). done (a, record { at = n; rest = rest })) place;
   written = λ out a fits.
       let w = sized_address.written out (0, tt) (lit< tt, tt) in
       record { text = w.text; parts = sym (append-nil _) ∙ w.parts; spells = (0, w.spells) };

@@ -67,7 +67,7 @@ body_sized (bodies.Fault f) x y e = fault_lawful.sized x y f e
 body_sized (bodies.Bind b) x y e = bind_lawful.sized x y b e
 body_sized (bodies.BindAck a) x y e = ack_lawful.sized x y a e
 body_sized (bodies.BindNak n) x y e =
-    length-append (nak_item.appends x n) (1 ∷ 5 ∷ 0 ∷ []) ∙ ap (λ (k : ℕ). k + length (1 ∷ 5 ∷ 0 ∷ [])) (nak_lawful.sized x y n e) ∙ sym (length-append (nak_item.appends y n) (1 ∷ 5 ∷ 0 ∷ []))
+    length-append (nak_item.appends x n) (1 ∷ 5 ∷ 0 ∷ []) ∙ ap (λ (k : ℕ). k + 3) (nak_lawful.sized x y n e) ∙ sym (length-append (nak_item.appends y n) (1 ∷ 5 ∷ 0 ∷ []))
 body_sized bodies.Shutdown x y e = e
 body_sized bodies.CoCancel x y e = e
 body_sized bodies.Orphaned x y e = e

@@ -14,6 +14,8 @@ pub struct Syntax {
 }
 
 impl Wire for Syntax {
+    type Value = Syntax;
+
     ghost use Rattle.std.specs.Prelude.{true};
 
     ghost reads = { syntax_item.reads };
@@ -28,9 +30,9 @@ impl Wire for Syntax {
         Ok(Syntax { id, version })
     }
 
-    fn put(&self, out: &mut Writer) -> Result<(), AllocError> {
-        out.put_guid(self.id)?;
-        out.put_u32(self.version)
+    fn put(syntax: &Syntax, out: &mut Writer) -> Result<(), AllocError> {
+        out.put_guid(syntax.id)?;
+        out.put_u32(syntax.version)
     }
 }
 
@@ -44,6 +46,8 @@ pub struct ContextElem {
 }
 
 impl Wire for ContextElem {
+    type Value = ContextElem;
+
     ghost reads = { element_item.reads };
 
     ghost appends = { element_item.appends };
@@ -55,7 +59,7 @@ impl Wire for ContextElem {
         let count = r.take_u8()?;
         r.take_reserved(1)?;
         let interface = Syntax::take(alloc, r)?;
-        let transfers = List::of(take_many(alloc, r, u32::from(count))?);
+        let transfers = List::of(take_many::<Syntax>(alloc, r, u32::from(count))?);
         Ok(ContextElem {
             id,
             interface,
@@ -63,13 +67,13 @@ impl Wire for ContextElem {
         })
     }
 
-    fn put(&self, out: &mut Writer) -> Result<(), AllocError> {
-        let transfers = self.transfers.as_slice();
-        out.put_u16(self.id)?;
+    fn put(element: &ContextElem, out: &mut Writer) -> Result<(), AllocError> {
+        let transfers = element.transfers.as_slice();
+        out.put_u16(element.id)?;
         out.put_u8(transfers.len() as u8)?;
         out.put_reserved(1)?;
-        self.interface.put(out)?;
-        put_many(out, transfers)
+        Syntax::put(&element.interface, out)?;
+        put_many::<Syntax>(out, transfers)
     }
 }
 
@@ -86,6 +90,8 @@ pub struct Bind {
 }
 
 impl Wire for Bind {
+    type Value = Bind;
+
     ghost reads = { bind_item.reads };
 
     ghost appends = { bind_item.appends };
@@ -98,7 +104,7 @@ impl Wire for Bind {
         let group = r.take_u32()?;
         let count = r.take_u8()?;
         r.take_reserved(3)?;
-        let contexts = List::of(take_many(alloc, r, u32::from(count))?);
+        let contexts = List::of(take_many::<ContextElem>(alloc, r, u32::from(count))?);
         Ok(Bind {
             xmit,
             recv,
@@ -107,13 +113,13 @@ impl Wire for Bind {
         })
     }
 
-    fn put(&self, out: &mut Writer) -> Result<(), AllocError> {
-        let contexts = self.contexts.as_slice();
-        out.put_u16(self.xmit)?;
-        out.put_u16(self.recv)?;
-        out.put_u32(self.group)?;
+    fn put(bind: &Bind, out: &mut Writer) -> Result<(), AllocError> {
+        let contexts = bind.contexts.as_slice();
+        out.put_u16(bind.xmit)?;
+        out.put_u16(bind.recv)?;
+        out.put_u32(bind.group)?;
         out.put_u8(contexts.len() as u8)?;
         out.put_reserved(3)?;
-        put_many(out, contexts)
+        put_many::<ContextElem>(out, contexts)
     }
 }

@@ -19,6 +19,8 @@ pub struct ContextResult {
 }
 
 impl Wire for ContextResult {
+    type Value = ContextResult;
+
     ghost use Rattle.std.specs.Prelude.{true};
 
     ghost reads = { result_item.reads };
@@ -38,10 +40,10 @@ impl Wire for ContextResult {
         })
     }
 
-    fn put(&self, out: &mut Writer) -> Result<(), AllocError> {
-        out.put_u16(self.result)?;
-        out.put_u16(self.reason)?;
-        self.transfer.put(out)
+    fn put(outcome: &ContextResult, out: &mut Writer) -> Result<(), AllocError> {
+        out.put_u16(outcome.result)?;
+        out.put_u16(outcome.reason)?;
+        Syntax::put(&outcome.transfer, out)
     }
 }
 
@@ -69,6 +71,8 @@ fn take_address(r: &mut Reader) -> Result<(), NdrBad>
 }
 
 impl Wire for BindAck {
+    type Value = BindAck;
+
     ghost reads = { ack_item.reads };
 
     ghost appends = { ack_item.appends };
@@ -82,7 +86,7 @@ impl Wire for BindAck {
         take_address(r)?;
         let count = r.take_u8_behind(4)?;
         r.take_reserved(3)?;
-        let results = List::of(take_many(alloc, r, u32::from(count))?);
+        let results = List::of(take_many::<ContextResult>(alloc, r, u32::from(count))?);
         Ok(BindAck {
             xmit,
             recv,
@@ -91,15 +95,15 @@ impl Wire for BindAck {
         })
     }
 
-    fn put(&self, out: &mut Writer) -> Result<(), AllocError> {
-        let results = self.results.as_slice();
-        out.put_u16(self.xmit)?;
-        out.put_u16(self.recv)?;
-        out.put_u32(self.group)?;
+    fn put(ack: &BindAck, out: &mut Writer) -> Result<(), AllocError> {
+        let results = ack.results.as_slice();
+        out.put_u16(ack.xmit)?;
+        out.put_u16(ack.recv)?;
+        out.put_u32(ack.group)?;
         out.put_u16(0)?;
         out.put_u8_behind(4, results.len() as u8)?;
         out.put_reserved(3)?;
-        put_many(out, results)
+        put_many::<ContextResult>(out, results)
     }
 }
 
@@ -111,6 +115,8 @@ pub struct BindNak {
 }
 
 impl Wire for BindNak {
+    type Value = BindNak;
+
     ghost use Rattle.std.specs.Prelude.{true};
 
     ghost reads = { nak_item.reads };
@@ -124,7 +130,7 @@ impl Wire for BindNak {
         Ok(BindNak { reason })
     }
 
-    fn put(&self, out: &mut Writer) -> Result<(), AllocError> {
-        out.put_u16(self.reason)
+    fn put(nak: &BindNak, out: &mut Writer) -> Result<(), AllocError> {
+        out.put_u16(nak.reason)
     }
 }

@@ -90,6 +90,8 @@ pub(crate) fn put_response(out: &mut Writer, response: &Response) -> Result<(), 
 }
 
 impl Wire for Fault {
+    type Value = Fault;
+
     ghost use Rattle.std.specs.Prelude.{true};
 
     ghost reads = { fault_item.reads };
@@ -108,12 +110,12 @@ impl Wire for Fault {
         Ok(Fault { context, status })
     }
 
-    fn put(&self, out: &mut Writer) -> Result<(), AllocError> {
+    fn put(fault: &Fault, out: &mut Writer) -> Result<(), AllocError> {
         out.put_reserved(4)?;
-        out.put_u16(self.context)?;
+        out.put_u16(fault.context)?;
         out.put_reserved(1)?;
         out.put_reserved(1)?;
-        out.put_u32(self.status)?;
+        out.put_u32(fault.status)?;
         out.put_reserved(4)
     }
 }

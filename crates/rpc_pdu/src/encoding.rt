@@ -5,7 +5,7 @@ ghost use Rattle.rpc_pdu.specs.declared.pdu.PduBody.TheVariants as bodies;
 
 use crate::calls::{put_request, put_response};
 use crate::header::{Header, REPRESENTATION, VERSION, put_header};
-use crate::{BindNak, Pdu, PduBody};
+use crate::{Bind, BindAck, BindNak, Fault, Pdu, PduBody};
 use ndr_core::{Wire, Writer};
 use std::alloc::{AllocError, Global};
 
@@ -30,7 +30,7 @@ fn kind_of(body: &PduBody) -> u8
 fn put_nak(out: &mut Writer, nak: &BindNak) -> Result<(), AllocError>
     ensures { OnOk result (out.new ≡ body_appends (bodies.BindNak nak.now) out.old) }
 {
-    nak.put(out)?;
+    BindNak::put(nak, out)?;
     out.put_bytes(&[1, 5, 0])
 }
 
@@ -42,9 +42,9 @@ fn put_body(out: &mut Writer, body: &PduBody) -> Result<(), AllocError>
     match body {
         PduBody::Request(request) => put_request(out, request),
         PduBody::Response(response) => put_response(out, response),
-        PduBody::Fault(fault) => fault.put(out),
-        PduBody::Bind(bind) => bind.put(out),
-        PduBody::BindAck(ack) => ack.put(out),
+        PduBody::Fault(fault) => Fault::put(fault, out),
+        PduBody::Bind(bind) => Bind::put(bind, out),
+        PduBody::BindAck(ack) => BindAck::put(ack, out),
         PduBody::BindNak(nak) => put_nak(out, nak),
         PduBody::Shutdown | PduBody::CoCancel | PduBody::Orphaned => Ok(()),
     }

@@ -26,5 +26,5 @@ pub use laws::{pdus_are_read_as_spelled, pdus_are_spelled, pdus_read_back, what_
 pub use pdu::{Pdu, PduBody};
 pub use refusal::{PduBad, PduError};
 
-
-
+#[cfg(test)]
+mod tests;

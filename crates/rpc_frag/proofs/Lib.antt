@@ -1,0 +1,4 @@
+pub mod Cuts
+pub mod Steady
+pub mod Gathering
+pub mod Cutting
