@@ -70,3 +70,8 @@ Answers (entries.Entered place) limit v w =
     (place < limit)
     × (w ≡ record { places = v.places ++ place ∷ []; tried = v.tried ++ taken place ++ (place, 0) ∷ []; entered = v.entered + 1; busy = v.busy; splits = v.splits; first = v.first })
 Answers entries.Busy limit v w = w ≡ record { places = v.places; tried = v.tried ++ taken limit; entered = v.entered; busy = v.busy + 1; splits = v.splits; first = v.first }
+
+-- the seat was let in
+abbrev pub HasEntered : Entry → Type 0
+HasEntered (entries.Entered place) = Unit {0}
+HasEntered entries.Busy = ⊥

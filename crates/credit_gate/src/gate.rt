@@ -1,7 +1,7 @@
 // The gate, and its seats.
 ghost use Rattle.std.specs.Prelude.{◌≡◌, ◌<◌, ◌≤◌, IfOk, length};
 ghost use Rattle.credit_gate.specs.Rule.{alone, first_view, fresh_view, times};
-ghost use Rattle.credit_gate.specs.Steps.{Answers, IsEntered, Tried, joined, left, split_off};
+ghost use Rattle.credit_gate.specs.Steps.{Answers, HasEntered, IsEntered, Tried, joined, left, split_off};
 
 use crate::View;
 use crate::rule::{Enter, EnterLast, Joined, Leave, Places, SplitOff};
@@ -96,6 +96,26 @@ impl Gate {
         found == 0
     }
 
+    /// Tries one place after the other, and enters at the first that its step finds free.
+    pub fn try_enter(&self, seat: &mut GateSeat) -> Entry
+        requires { seat.old.name ≡ self.now.name }
+        ensures name { seat.new.name ≡ seat.old.name }
+        ensures answer { Answers result self.now.limit seat.old.view seat.new.view }
+        ensures alone { alone seat.old.view ≡ 1 → length seat.old.view.places < self.now.limit → HasEntered result }
+    {
+        for place in 0..self.limit {
+            let is_free = if place + 1 == self.limit {
+                self.try_last(seat, place)
+            } else {
+                self.try_place(seat, place)
+            };
+            if is_free {
+                return Entry::Entered { place };
+            }
+        }
+        Entry::Busy
+    }
+
     /// Leaves a place of the seat.
     pub fn leave(&self, seat: &mut GateSeat, place: u32)
         requires seat { seat.old.name ≡ self.now.name }
@@ -103,10 +123,11 @@ impl Gate {
         ensures name { seat.new.name ≡ seat.old.name }
         ensures left { seat.new.view ≡ left place seat.old.view }
     {
-        let _taken = self
+        let found = self
             .table
             .shared
             .swap::<Leave>(&mut seat.seat, place as usize, 0);
+        let _ = found;
     }
 
     /// A new seat of this gate, which has no place.

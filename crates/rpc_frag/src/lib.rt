@@ -18,3 +18,6 @@ pub use fragment::Whole;
 pub use laws::{any_cut_gives_the_same, fragments_give_their_call};
 pub use refusal::{FragBad, FragError, StreamBad, StreamError};
 pub use splitting::Splitter;
+
+#[cfg(test)]
+mod tests;

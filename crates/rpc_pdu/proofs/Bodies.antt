@@ -1,5 +1,5 @@
 -- Bodies: what is read of one is spelled, and what is spelled is read.
-use Rattle.std.proofs.Common.{◌≡◌, ◌∙◌, ℕ, ◌+◌, ◌-◌, ◌<◌, ◌≤◌, ◌^◌, ◌||◌, Bool, true, false, cond, eqb, eq-eqb, List, [], ◌∷◌, ◌++◌, Result, Ok, Err, bit_and, length, inl, inr, refl, sym, ap, subst, append_assoc, arith, length-append, lit<}
+use Rattle.std.proofs.Common.{◌≡◌, ◌∙◌, ℕ, ◌-◌, Bool, true, false, cond, eqb, eq-eqb, List, [], ◌++◌, Result, Ok, Err, bit_and, length, inl, inr, refl, sym, ap, subst}
 use Rattle.std.specs.Prelude.{◌⊎◌}
 use Rattle.std.proofs.lemmas.Bool.{eqb-true}
 use Rattle.std.proofs.lemmas.List.{append-nil, nil_from_length}

@@ -1,7 +1,7 @@
 -- Whole PDUs: what is spelled is read, and what is read is spelled.
-use Rattle.std.proofs.Common.{◌≡◌, ◌∙◌, ℕ, suc, ◌+◌, ◌-◌, ◌<◌, ◌≤◌, ◌||◌, Bool, true, false, not, cond, eqb, ltb, List, [], ◌∷◌, ◌++◌, Option, None, Some, Result, Ok, Err, length, take, drop, inl, inr, refl, sym, ap, subst, append_assoc, arith, length-append, length-drop}
+use Rattle.std.proofs.Common.{◌≡◌, ◌∙◌, ℕ, suc, ◌+◌, ◌-◌, ◌<◌, ◌≤◌, ◌||◌, Bool, true, false, not, cond, eqb, ltb, List, [], ◌∷◌, ◌++◌, Option, None, Some, Result, Ok, Err, length, take, drop, inl, inr, refl, sym, ap, subst, append_assoc, arith, length-append}
 use Rattle.std.specs.Prelude.{slice_range}
-use Rattle.std.proofs.lemmas.Bool.{cases_lt, eqb-true, le-ltb, lt-ltb, ltb-false, not-false}
+use Rattle.std.proofs.lemmas.Bool.{cases_lt, le-ltb, lt-ltb, ltb-false, not-false}
 use Rattle.std.proofs.lemmas.List.{drop_at, take_at, length-take}
 use Rattle.ndr_core.specs.Cursor.{Cursor}
 use Rattle.ndr_core.specs.Items.{AreBytes}
@@ -11,7 +11,7 @@ use Rattle.rpc_pdu.specs.declared.header.Header.{Header}
 use Rattle.rpc_pdu.specs.declared.pdu.Pdu.{Pdu}
 use Rattle.rpc_pdu.specs.declared.pdu.PduBody.{PduBody}
 use Rattle.rpc_pdu.specs.declared.refusal.PduBad.{PduBad}
-use Rattle.rpc_pdu.specs.declared.refusal.PduBad.TheVariants.{Version, Kind, Drep, Length, Auth}
+use Rattle.rpc_pdu.specs.declared.refusal.PduBad.TheVariants.{Version, Kind, Drep, Length}
 use Rattle.rpc_pdu.specs.declared.refusal.PduError.{PduError}
 use Rattle.rpc_pdu.specs.declared.refusal.PduError.TheVariants as errors
 use Rattle.rpc_pdu.specs.Headers.{header_item, is_kind, judged}

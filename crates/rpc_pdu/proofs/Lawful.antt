@@ -1,5 +1,5 @@
 -- The header and the bodies keep the laws of items.
-use Rattle.std.proofs.Common.{◌≡◌, ◌∙◌, ℕ, ◌+◌, ◌-◌, ◌<◌, ◌^◌, ◌++◌, List, Result, Ok, length, refl, sym, ap, append_assoc, arith, length-append, lit<}
+use Rattle.std.proofs.Common.{◌≡◌, ◌∙◌, ℕ, ◌+◌, ◌-◌, ◌<◌, ◌^◌, ◌++◌, List, Ok, length, refl, sym, ap, append_assoc, arith, length-append, lit<}
 use Rattle.std.proofs.lemmas.List.{append-nil}
 use Rattle.std.specs.Int.{w16}
 use Rattle.ndr_core.specs.Items.{◌>>=◌, followed, number, skip}
@@ -7,10 +7,8 @@ use Rattle.ndr_core.specs.Laws.{IsLawful}
 use Rattle.ndr_core.proofs.Arrays.{lawful_many}
 use Rattle.ndr_core.proofs.Bytes.{bytes_of_lawful, number_8_at_lawful, number_8_lawful, number_16_lawful, number_32_lawful, skip_lawful}
 use Rattle.ndr_core.proofs.Identifiers.{guid_lawful}
-use Rattle.ndr_core.proofs.Steps.{bind_ok, done, ok_is}
+use Rattle.ndr_core.proofs.Steps.{bind_ok, done}
 use Rattle.ndr_core.proofs.Words.{◌⊗◌, lawful_seen, lawful_then, lawful_where}
-use Rattle.ndr_core.specs.Cursor.{Cursor}
-use Rattle.ndr_core.specs.Laws.{Took, Wrote}
 use Rattle.rpc_pdu.specs.declared.header.Header.{Header}
 use Rattle.rpc_pdu.specs.Headers.{header_item}
 use Rattle.rpc_pdu.specs.Bodies.{IsAck, IsBind, IsElement, IsFault, IsRequest, IsResponse, IsResult, IsSyntax, ack_item, address, bind_item, element_item, fault_item, nak_item, request_item, response_item, result_item, syntax_item}

@@ -1,10 +1,8 @@
 -- What is written is a spelling.
-use Rattle.std.proofs.Common.{◌≡◌, ◌∙◌, ℕ, ◌+◌, ◌-◌, ◌^◌, ◌<◌, ◌≤◌, List, [], ◌∷◌, ◌++◌, Ok, bit_and, length, refl, sym, ap, subst, append_assoc, arith, length-append, lit<, le-ltb}
+use Rattle.std.proofs.Common.{◌≡◌, ◌∙◌, ℕ, ◌+◌, ◌^◌, ◌<◌, ◌≤◌, List, [], ◌∷◌, ◌++◌, Ok, length, refl, sym, ap, subst, append_assoc, arith, length-append, lit<, le-ltb}
 use Rattle.std.proofs.lemmas.List.{append-nil}
 use Rattle.ndr_core.specs.Items.{Item}
-use Rattle.ndr_core.specs.Laws.{IsLawful}
 use Rattle.rpc_pdu.specs.declared.header.Header.{Header}
-use Rattle.rpc_pdu.specs.declared.pdu.Pdu.{Pdu}
 use Rattle.rpc_pdu.specs.declared.pdu.PduBody.{PduBody}
 use Rattle.rpc_pdu.specs.declared.pdu.PduBody.TheVariants as bodies
 use Rattle.rpc_pdu.specs.Headers.{header_item, judged}

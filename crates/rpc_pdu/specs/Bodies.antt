@@ -1,5 +1,5 @@
 -- The bodies of PDUs, from their sixteenth byte on.
-use Rattle.std.specs.Prelude.{◌≡◌, ◌-◌, ◌<◌, ◌^◌, ◌&&◌, ℕ, Bool, List, length, nat_lt, true}
+use Rattle.std.specs.Prelude.{◌-◌, ◌<◌, ◌^◌, ◌&&◌, ℕ, Bool, length, nat_lt, true}
 use Rattle.std.specs.List.{AllByRecursion}
 use Rattle.std.specs.Int.{w8, w16, w32}
 use Rattle.ndr_core.specs.Items.{◌>>=◌, ◌⨾◌, AreBytes, Item, bytes_of, followed, number, number_at, seen, skip}

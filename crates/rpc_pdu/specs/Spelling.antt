@@ -1,5 +1,5 @@
 -- Which bytes spell a PDU, apart from how they are read and written.
-use Rattle.std.specs.Prelude.{◌≡◌, ◌+◌, ◌<◌, ◌≤◌, ◌^◌, ◌++◌, ℕ, List, Ok, bit_and, length}
+use Rattle.std.specs.Prelude.{◌≡◌, ◌<◌, ◌≤◌, ◌^◌, ◌++◌, ℕ, List, Ok, bit_and, length}
 use Rattle.ndr_core.specs.Items.{Item}
 use Rattle.rpc_pdu.specs.Headers.{header_item, judged}
 use Rattle.rpc_pdu.specs.Bodies.{IsAck, IsBind, IsFault, IsRequest, IsResponse, ack_item, bind_item, fault_item, nak_item, request_item, response_item}
