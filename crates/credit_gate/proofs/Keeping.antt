@@ -18,12 +18,12 @@ Alone views = (total alone views ≡ 0) ⊎ (length views ≡ 1)
 
 -- a seat whose view is as much the first one as before
 alone_set : (views : List View) (id : ℕ) (v w : View) → get_elem? views id ≡ some v → alone w ≡ alone v → Alone views → Alone (set views id w)
-alone_set views id v w at same (inl none) = inl (omega (arith, total_set alone views id v w at, same, none))
+alone_set views id v w at same (inl zero_is) = inl (omega (arith, total_set alone views id v w at, same, zero_is))
 alone_set views id v w at same (inr one) = inr (length-set views id w ∙ one)
 
 -- the only seat has each place that is taken
 only_has : (words : List ℕ) (views : List View) (id : ℕ) (v : View) → Counted words views → Alone views → get_elem? views id ≡ some v → alone v ≡ 1 → (i : ℕ) → slice_index words i ≡ times i v.places
-only_has words views id v counted (inl none) at is i = absurd (omega (arith, total_least alone views id v at, none, is))
+only_has words views id v counted (inl zero_is) at is i = absurd (omega (arith, total_least alone views id v at, zero_is, is))
 only_has words views id v counted (inr one) at is i = sym (counted i).0 ∙ total_only (λ u. times i u.places) views id v one at
 
 -- ---- one word and one view
@@ -75,6 +75,11 @@ tries count last id place me slots room s kept homes at small =
 
 -- ---- leaving
 
+taken_room : (words : List ℕ) (place : ℕ) → 0 < slice_index words place → place < length words
+taken_room [] place has = absurd (omega arith)
+taken_room (x ∷ xs) zero has = omega arith
+taken_room (x ∷ xs) (suc place) has = omega (arith, taken_room xs place has)
+
 pub leaves : (count id place : ℕ) (me : Me (Unit {0}) View) (slots : ℕ) → 0 < times place me.0.places
     → Allows {S = Unit {0}} (λ s. Kept count s.words s.views) slots id me place (λ _. 0) (λ found w. (w.0 ≡ left place me.0) × (w.1 ≡ me.1))
 leaves count id place me slots has s kept homes at small =
@@ -88,11 +93,6 @@ leaves count id place me slots has s kept homes at small =
     let others : (i : ℕ) → (i ≡ place → ⊥) → times i w.places ≡ times i v.places = λ i apart. omega (arith, times_without i place v.places has, none_at place i (λ q. apart (sym q))) in
     let room : place < length s.words = taken_room s.words place (omega (arith, k.0, most, has)) in
     (w, keeps, tt, (length-set s.words place 0 ∙ kept.0, counted_set s.words s.views id place 0 v w room kept.1 at others here (omega arith), alone_set s.views id v w at refl kept.2), (refl, refl))
-  where
-    taken_room : (words : List ℕ) (place : ℕ) → 0 < slice_index words place → place < length words
-    taken_room [] place some = absurd (omega arith)
-    taken_room (x ∷ xs) zero some = omega arith
-    taken_room (x ∷ xs) (suc place) some = omega (arith, taken_room xs place some)
 
 -- ---- making, splitting and joining
 
@@ -113,8 +113,8 @@ not_alone v = by v.first
     by false = refl
 
 splits_none : (views : List View) (id : ℕ) (v : View) → get_elem? views id ≡ some v → Alone views → total alone (set views id (split_off v) ++ fresh_view ∷ []) ≡ 0
-splits_none views id v at (inl none) =
-    omega (arith, total_snoc alone (set views id (split_off v)) fresh_view, total_set alone views id v (split_off v) at, not_alone v, none)
+splits_none views id v at (inl zero_is) =
+    omega (arith, total_snoc alone (set views id (split_off v)) fresh_view, total_set alone views id v (split_off v) at, not_alone v, zero_is)
 splits_none views id v at (inr one) =
     omega (arith, total_snoc alone (set views id (split_off v)) fresh_view, total_set alone views id v (split_off v) at, not_alone v, total_only alone views id v one at)
 
@@ -152,7 +152,7 @@ sums count id v other w s kept at apart there = (
 )
   where
     both : Alone s.views → Alone (set (set s.views id (joined v w)) other fresh_view)
-    both (inl none) =
+    both (inl zero_is) =
         inl
-        (omega (arith, none, total_set alone s.views id v (joined v w) at, total_set alone (set s.views id (joined v w)) other w fresh_view there, join_least v w, total_least alone s.views id v at))
+        (omega (arith, zero_is, total_set alone s.views id v (joined v w) at, total_set alone (set s.views id (joined v w)) other w fresh_view there, join_least v w, total_least alone s.views id v at))
     both (inr one) = inr (length-set (set s.views id (joined v w)) other fresh_view ∙ length-set s.views id (joined v w) ∙ one)

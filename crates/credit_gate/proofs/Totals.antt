@@ -4,7 +4,7 @@ use mathlib.Core.Option.{some, none, some-ne-none, some-injective}
 use lib.ListN.{get_elem?}
 use Rattle.std.proofs.lemmas.Bool.{eqb-true, eqb-false, eq-eqb, ne_eqb}
 use Rattle.credit_gate.specs.declared.view.View.{View}
-use Rattle.credit_gate.specs.Rule.{one_if, times, total}
+use Rattle.credit_gate.specs.Rule.{Below, one_if, times, total}
 use Rattle.credit_gate.specs.Steps.{without}
 
 -- a view is changed
@@ -47,17 +47,33 @@ one_at place i e = one_is (place == i) (eq-eqb place i e)
 pub none_at : (place i : ℕ) → (place ≡ i → ⊥) → one_if (place == i) ≡ 0
 none_at place i e = none_is (place == i) (ne_eqb place i e)
 
+without_by : (i place x : ℕ) (xs rest : List ℕ) (b : Bool) → (x == place) ≡ b → (b ≡ false → times i rest + one_if (place == i) ≡ times i xs) → times i (cond b xs (x ∷ rest)) + one_if (place == i) ≡ one_if (x == i) + times i xs
+without_by i place x xs rest true e later = let same : one_if (place == i) ≡ one_if (x == i) = ap (λ (p : ℕ). one_if (p == i)) (sym (eqb-true x place e)) in omega (arith, same)
+without_by i place x xs rest false e later = omega (arith, later refl)
+
 -- without one that is left
 pub times_without : (i place : ℕ) (xs : List ℕ) → 0 < times place xs → times i (without place xs) + one_if (place == i) ≡ times i xs
 times_without i place [] has = absurd (omega arith)
-times_without i place (x ∷ xs) has = by (x == place) refl
+times_without i place (x ∷ xs) has = without_by i place x xs (without place xs) (x == place) refl (λ apart. times_without i place xs (omega (arith, has, none_is (x == place) apart)))
+
+-- ---- places below a count
+
+pub below_more : (count place : ℕ) (xs : List ℕ) → place < count → Below count xs → Below count (xs ++ place ∷ [])
+below_more count place xs lt below i has = by (place == i) refl
   where
-    by : (b : Bool) → (x == place) ≡ b → times i (cond b xs (x ∷ without place xs)) + one_if (place == i) ≡ one_if (x == i) + times i xs
-    by true e = let same : one_if (place == i) ≡ one_if (x == i) = ap (λ (p : ℕ). one_if (p == i)) (sym (eqb-true x place e)) in omega (arith, same)
-    by false e =
-        let later : 0 < times place xs = omega (arith, has, none_is (x == place) e) in
-        let h = times_without i place xs later in
-        omega (arith, h)
+    by : (b : Bool) → (place == i) ≡ b → i < count
+    by true e = omega (arith, eqb-true place i e, lt)
+    by false e = below i (omega (arith, has, times_append i xs (place ∷ []), none_is (place == i) e))
+
+pub below_fewer : (count place : ℕ) (xs : List ℕ) → 0 < times place xs → Below count xs → Below count (without place xs)
+below_fewer count place xs left below i has = below i (omega (arith, has, times_without i place xs left))
+
+pub below_both : (count : ℕ) (xs ys : List ℕ) → Below count xs → Below count ys → Below count (xs ++ ys)
+below_both count xs ys first second i has = by (times i xs) refl
+  where
+    by : (n : ℕ) → times i xs ≡ n → i < count
+    by zero e = second i (omega (arith, has, times_append i xs ys, e))
+    by (suc n) e = first i (omega (arith, e))
 
 -- ---- as many places as there are
 
@@ -70,16 +86,16 @@ sum_zero : (n : ℕ) (f : ℕ → ℕ) → ((i : ℕ) → i < n → f i ≡ 0) �
 sum_zero zero f each = refl
 sum_zero (suc n) f each = omega (arith, sum_zero n f (λ i lt. each i (omega arith)), each n (omega arith))
 
+one_by : (n x : ℕ) (b : Bool) → (x == n) ≡ b → sum_to n (λ i. one_if (x == i)) ≤ 1 → sum_to n (λ i. one_if (x == i)) + one_if (x == n) ≤ 1
+one_by n x true e before =
+    let is : x ≡ n = eqb-true x n e in
+    let others = sum_zero n (λ i. one_if (x == i)) (λ i lt. none_at x i (λ same. omega (arith, same, is, lt))) in
+    omega (arith, others, one_is (x == n) e)
+one_by n x false e before = omega (arith, before, none_is (x == n) e)
+
 sum_one : (n x : ℕ) → sum_to n (λ i. one_if (x == i)) ≤ 1
 sum_one zero x = omega arith
-sum_one (suc n) x = by (x == n) refl
-  where
-    by : (b : Bool) → (x == n) ≡ b → sum_to n (λ i. one_if (x == i)) + one_if (x == n) ≤ 1
-    by true e =
-        let is : x ≡ n = eqb-true x n e in
-        let others = sum_zero n (λ i. one_if (x == i)) (λ i lt. none_at x i (λ same. omega (arith, same, is, lt))) in
-        omega (arith, others, one_is (x == n) e)
-    by false e = omega (arith, sum_one n x, none_is (x == n) e)
+sum_one (suc n) x = one_by n x (x == n) refl (sum_one n x)
 
 sum_split : (n : ℕ) (f g : ℕ → ℕ) → sum_to n (λ i. f i + g i) ≡ sum_to n f + sum_to n g
 sum_split zero f g = refl

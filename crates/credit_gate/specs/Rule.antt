@@ -1,5 +1,5 @@
 -- The rule of a gate: its words, and the views of its seats.
-use Rattle.std.specs.Prelude.{◌≡◌, ◌⊎◌, ◌+◌, ◌≤◌, ◌==◌, ◌&&◌, ℕ, Bool, List, [], ◌∷◌, if◌then◌else◌, length, slice_index, false, true}
+use Rattle.std.specs.Prelude.{◌≡◌, ◌⊎◌, ◌+◌, ◌<◌, ◌≤◌, ◌==◌, ◌&&◌, ℕ, Bool, List, [], ◌∷◌, if◌then◌else◌, length, slice_index, false, true}
 use Rattle.credit_gate.specs.declared.view.View.{View}
 
 -- the seat that is made with a gate
@@ -34,3 +34,7 @@ Counted words views = (i : ℕ) → (total (λ v. times i v.places) views ≡ sl
 -- there are so many words; and while the first seat has split none off, there is no other
 abbrev pub Kept : ℕ → List ℕ → List View → Type 0
 Kept count words views = (length words ≡ count) × Counted words views × ((total alone views ≡ 0) ⊎ (length views ≡ 1))
+
+-- each place is one of so many
+abbrev pub Below : ℕ → List ℕ → Type 0
+Below count places = (place : ℕ) → 0 < times place places → place < count

@@ -19,6 +19,7 @@ pub enum Entry {
 }
 
 /// A gate with a limit, which threads share. Contracts see its name and its limit.
+#[derive(Drop)]
 pub struct Gate {
     table: Table<(), View, u64, Places, Global>,
     limit: u32,
@@ -38,12 +39,14 @@ impl Model for Gate {
 }
 
 /// By what a thread enters and leaves a gate. Contracts see its gate's name and its view.
+#[derive(Drop)]
 pub struct GateSeat {
     seat: Seat<(), View>,
 }
 
 impl Model for GateSeat {
     ghost use Rattle.std.specs.Prelude.{◌≡◌, []};
+    ghost use Rattle.credit_gate.specs.Rule.{Below};
     ghost use Rattle.credit_gate.specs.Seen.{SeatSeen, seat_code};
 
     ghost Value = { SeatSeen };
@@ -52,7 +55,7 @@ impl Model for GateSeat {
 
     ghost view = { λ s. record { name = s.seat.table_id; view = s.seat.me.0 } };
 
-    ghost invariant = { λ s. s.seat.me.1 ≡ [] };
+    ghost invariant = { λ s. (s.seat.me.1 ≡ []) × Below s.seat.table_id.words s.seat.me.0.places };
 }
 
 impl Gate {

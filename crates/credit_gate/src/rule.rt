@@ -18,6 +18,7 @@ impl TableRule<(), View, u64> for Places {
 pub(crate) struct Enter;
 
 impl Play<(), View> for Enter {
+    ghost use Rattle.std.specs.Prelude.{◌≡◌};
     ghost use Rattle.credit_gate.specs.Steps.{Tried};
 
     ghost then = { λ s v found w. Tried 0 s.word v.0 found w.0 × (w.1 ≡ v.1) };
@@ -27,6 +28,7 @@ impl Play<(), View> for Enter {
 pub(crate) struct EnterLast;
 
 impl Play<(), View> for EnterLast {
+    ghost use Rattle.std.specs.Prelude.{◌≡◌};
     ghost use Rattle.credit_gate.specs.Steps.{Tried};
 
     ghost then = { λ s v found w. Tried 1 s.word v.0 found w.0 × (w.1 ≡ v.1) };
@@ -36,6 +38,7 @@ impl Play<(), View> for EnterLast {
 pub(crate) struct Leave;
 
 impl Play<(), View> for Leave {
+    ghost use Rattle.std.specs.Prelude.{◌≡◌};
     ghost use Rattle.credit_gate.specs.Steps.{left};
 
     ghost then = { λ s v found w. (w.0 ≡ left s.word v.0) × (w.1 ≡ v.1) };

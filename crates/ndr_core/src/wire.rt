@@ -33,7 +33,11 @@ pub trait Wire {
 }
 
 /// So many values, one behind the other. Memory is taken as they come.
-pub fn take_many<T: Wire>(alloc: Global, r: &mut Reader, count: u32) -> Result<Vec<T::Value>, NdrError>
+pub fn take_many<T: Wire>(
+    alloc: Global,
+    r: &mut Reader,
+    count: u32,
+) -> Result<Vec<T::Value>, NdrError>
     ensures read { ReadsBy (λ x. x.items) (reads_many T.reads count) result r.old r.new }
     ensures counted { IfOk result (λ x. length x.items ≡ count) }
 {

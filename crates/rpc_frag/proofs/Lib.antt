@@ -1,4 +1,4 @@
 pub mod Cuts
 pub mod Steady
 pub mod Gathering
-pub mod Cutting
+pub mod Parts

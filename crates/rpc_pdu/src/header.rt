@@ -79,8 +79,15 @@ pub(crate) fn put_header(out: &mut Writer, h: &Header) -> Result<(), AllocError>
 fn is_kind(kind: u8) -> bool
     ensures { result ≡ is_kind kind }
 {
-    kind == 0 || kind == 2 || kind == 3 || kind == 11 || kind == 12 || kind == 13 || kind == 17
-        || kind == 18 || kind == 19
+    kind == 0
+        || kind == 2
+        || kind == 3
+        || kind == 11
+        || kind == 12
+        || kind == 13
+        || kind == 17
+        || kind == 18
+        || kind == 19
 }
 
 /// Refuses a header by its first field that is wrong.

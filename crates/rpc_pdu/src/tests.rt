@@ -116,7 +116,9 @@ fn wire_unknown_opnum(rt: HostRuntime) -> Result<(), Fail> {
         return Err(Fail::from("no request"));
     };
     assert_eq!(rt; size, 24);
-    assert!(rt; matches!(&pdu.body, PduBody::Request(r) if r.opnum == 6 && r.stub.as_slice().is_empty()));
+    assert!(rt;
+        matches!(&pdu.body, PduBody::Request(r) if r.opnum == 6 && r.stub.as_slice().is_empty())
+    );
     Ok(())
 }
 
@@ -175,7 +177,16 @@ fn wire_decode_refusals(rt: HostRuntime) {
     for (place, byte) in [(1, 1), (6, 9), (7, 9), (26, 1), (31, 1)] {
         assert_eq!(rt; bad_at(alloc, &BIND, place, byte), None, "{place}");
     }
-    assert_eq!(rt; bad_at(alloc, &REQUEST, 3, 0x83), Some(PduBad::Body { at: 3 }));
-    assert_eq!(rt; bad_at(alloc, &FAULT, 8, 0x1b), Some(PduBad::Body { at: 24 }));
-    assert_eq!(rt; bad_at(alloc, &BIND_ACK, 24, 40), Some(PduBad::Body { at: 26 }));
+    assert_eq!(rt;
+        bad_at(alloc, &REQUEST, 3, 0x83),
+        Some(PduBad::Body { at: 3 })
+    );
+    assert_eq!(rt;
+        bad_at(alloc, &FAULT, 8, 0x1b),
+        Some(PduBad::Body { at: 24 })
+    );
+    assert_eq!(rt;
+        bad_at(alloc, &BIND_ACK, 24, 40),
+        Some(PduBad::Body { at: 26 })
+    );
 }

@@ -1,4 +1,4 @@
-use Rattle.rpc_frag.proofs.Cutting.{cuts_give_their_call}
+use Rattle.rpc_frag.proofs.Parts.{cuts_give_their_call}
 use Rattle.rpc_frag.proofs.Gathering.{fragments_give_their_call}
 use Rattle.rpc_frag.proofs.laws.fragments_give_their_call.Goals as goal
 
