@@ -151,8 +151,6 @@ impl Gate {
         ensures { (into.new.name ≡ into.old.name) × (into.new.view ≡ joined into.old.view from.view) }
     {
         let GateSeat { seat } = from;
-        self.table
-            .shared
-            .join_seat::<Joined>(&mut into.seat, seat);
+        self.table.shared.join_seat::<Joined>(&mut into.seat, seat);
     }
 }

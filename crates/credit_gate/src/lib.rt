@@ -12,3 +12,6 @@ mod view;
 
 pub use gate::{Entry, Gate, GateSeat};
 pub use view::View;
+
+#[cfg(test)]
+mod tests;

@@ -1,4 +1,7 @@
-use Rattle.std.proofs.Common.{◌≡◌, ◌<◌, ℕ, ap, arith, subst}
+use Rattle.std.proofs.Common.{◌≡◌, ◌∙◌, ◌<◌, ℕ, ap, arith, subst}
+use Rattle.credit_gate.specs.Steps.{left}
+use Rattle.credit_gate.proofs.Seats.{moved}
+use Rattle.credit_gate.proofs.Totals.{below_fewer}
 use Rattle.credit_gate.specs.Rule.{times}
 use Rattle.credit_gate.specs.Seen.{GateSeen, SeatSeen}
 use Rattle.credit_gate.specs.declared.view.View.{View}
@@ -20,3 +23,12 @@ swap-found-requires c =
       subst (λ (t : TableId). c.args.place < t.words) same room,
       leaves table.key s.id c.args.place s.me table.table_id.slots has,
     )
+
+pub invariant_of-seat : goal.invariant_of-seat
+invariant_of-seat c =
+    let view = ap (λ (s : SeatSeen). times c.args.place s.view.places) c.seat.view_is in
+    let s = c.seat.inside.seat in
+    let n = c.swap-found.new.seat in
+    let e = c.swap-found.ensures in
+    let has : 0 < times c.args.place s.me.0.places = omega (arith, view, c.requires.place) in
+    (e.2.1 ∙ c.seat.invariant.0, moved s.table_id n.table_id (left c.args.place s.me.0) n.me.0 e.0 e.2.0 (below_fewer s.table_id.words c.args.place s.me.0.places has c.seat.invariant.1))
