@@ -1,11 +1,11 @@
 -- Each step keeps the rule.
-use Rattle.std.proofs.Common.{◌≡◌, ◌≢◌, ◌∙◌, ℕ, zero, suc, ◌+◌, ◌<◌, ◌≤◌, ◌==◌, ◌&&◌, Bool, true, false, eqb, List, [], ◌∷◌, ◌++◌, length, set, inl, inr, refl, sym, ap, subst, arith, replicate}
+use Rattle.std.proofs.Common.{◌≡◌, ◌∙◌, ℕ, zero, suc, ◌+◌, ◌<◌, ◌≤◌, ◌==◌, ◌&&◌, Bool, true, false, eqb, List, [], ◌∷◌, ◌++◌, length, set, inl, inr, refl, sym, ap, subst, arith, replicate}
 use Rattle.std.specs.Prelude.{◌⊎◌, slice_index}
-use Rattle.std.proofs.lemmas.Bool.{cases_lt, eqb-true, eqb-false, ne_eqb}
+use Rattle.std.proofs.lemmas.Bool.{eqb-true, eqb-false, ne_eqb}
 use Rattle.std.proofs.lemmas.List.{length-replicate, get_or-set_same, get_or-set_other, length-set}
-use mathlib.Core.Option.{some, none}
+use mathlib.Core.Option.{some}
 use lib.ListN.{get_elem?}
-use Rattle.atomic_table.specs.Table.{Act, Allows, Joins, Me, Splits, Valid, carried_after, keeps, stepped}
+use Rattle.atomic_table.specs.Table.{Allows, Joins, Me, Splits, keeps}
 use Rattle.credit_gate.specs.declared.view.View.{View}
 use Rattle.credit_gate.specs.Rule.{Counted, Kept, alone, first_view, fresh_view, one_if, times, total}
 use Rattle.credit_gate.specs.Steps.{IsEntered, Tried, entered, joined, left, refused, split_off}

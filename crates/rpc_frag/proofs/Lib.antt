@@ -1,4 +1,3 @@
 pub mod Cuts
-pub mod Steady
 pub mod Gathering
 pub mod Parts

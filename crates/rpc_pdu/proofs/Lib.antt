@@ -3,3 +3,4 @@ pub mod Sizes
 pub mod Bodies
 pub mod Decoded
 pub mod Spelled
+pub mod Steady

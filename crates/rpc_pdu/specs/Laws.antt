@@ -1,5 +1,5 @@
 -- What holds of every PDU.
-use Rattle.std.specs.Prelude.{◌≡◌, ◌≤◌, ◌++◌, ℕ, List, Some, Ok, length, take}
+use Rattle.std.specs.Prelude.{◌≡◌, ◌⊎◌, ◌≤◌, ◌++◌, ℕ, List, None, Some, Ok, length, take}
 use Rattle.ndr_core.specs.Items.{AreBytes}
 use Rattle.rpc_pdu.specs.Decoding.{decoded}
 use Rattle.rpc_pdu.specs.Encoding.{encoded}
@@ -21,3 +21,7 @@ WhatIsReadIsSpelled = (bytes : List ℕ) (p : Pdu) (size : ℕ) → AreBytes byt
 -- what is written is read again, whatever follows
 abbrev pub PdusReadBack : Type 0
 PdusReadBack = (p : Pdu) (rest : List ℕ) → IsPdu p → decoded (encoded p ++ rest) ≡ Ok (Some (p, length (encoded p)))
+
+-- more bytes change nothing of what was said of some, but that there is no PDU yet
+abbrev pub MoreChangesNothing : Type 0
+MoreChangesNothing = (bytes piece : List ℕ) → AreBytes bytes → (decoded bytes ≡ Ok None) ⊎ (decoded (bytes ++ piece) ≡ decoded bytes)

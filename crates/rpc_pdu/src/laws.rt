@@ -1,5 +1,5 @@
 // What holds of every PDU, each law the contract of a function that does nothing.
-ghost use Rattle.rpc_pdu.specs.Laws.{PdusAreReadAsSpelled, PdusAreSpelled, PdusReadBack, WhatIsReadIsSpelled};
+ghost use Rattle.rpc_pdu.specs.Laws.{MoreChangesNothing, PdusAreReadAsSpelled, PdusAreSpelled, PdusReadBack, WhatIsReadIsSpelled};
 
 /// What [`encode`] gives is a spelling of its PDU.
 ///
@@ -22,4 +22,11 @@ pub fn what_is_read_is_spelled()
 /// What is written is read again, whatever follows.
 pub fn pdus_read_back()
     ensures { PdusReadBack }
+{}
+
+/// More bytes change nothing of what [`decode`] said of some, but that there is no PDU yet.
+///
+/// [`decode`]: crate::decode
+pub fn more_bytes_change_nothing()
+    ensures { MoreChangesNothing }
 {}

@@ -23,7 +23,8 @@ pub use calls::{Fault, Request, Response};
 pub use decoding::decode;
 pub use encoding::encode;
 pub use laws::{
-    pdus_are_read_as_spelled, pdus_are_spelled, pdus_read_back, what_is_read_is_spelled,
+    more_bytes_change_nothing, pdus_are_read_as_spelled, pdus_are_spelled, pdus_read_back,
+    what_is_read_is_spelled,
 };
 pub use pdu::{Pdu, PduBody};
 pub use refusal::{PduBad, PduError};

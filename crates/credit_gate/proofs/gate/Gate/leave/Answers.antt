@@ -1,10 +1,9 @@
-use Rattle.std.proofs.Common.{◌≡◌, ◌∙◌, ◌<◌, ℕ, ap, arith, subst}
+use Rattle.std.proofs.Common.{◌≡◌, ◌∙◌, ◌<◌, ap, arith, subst}
 use Rattle.credit_gate.specs.Steps.{left}
 use Rattle.credit_gate.proofs.Seats.{moved}
 use Rattle.credit_gate.proofs.Totals.{below_fewer}
 use Rattle.credit_gate.specs.Rule.{times}
 use Rattle.credit_gate.specs.Seen.{GateSeen, SeatSeen}
-use Rattle.credit_gate.specs.declared.view.View.{View}
 use Rattle.atomic_table.specs.Seated.{TableId}
 use Rattle.credit_gate.proofs.Keeping.{leaves}
 use Rattle.credit_gate.proofs.gate.Gate.leave.Goals as goal

@@ -1,4 +1,4 @@
-use Rattle.std.proofs.Common.{◌≡◌, ◌<◌, ◌≤◌, ℕ}
+use Rattle.std.proofs.Common.{◌≡◌, ◌<◌, ℕ}
 use Rattle.credit_gate.specs.Rule.{alone, times}
 use Rattle.credit_gate.proofs.Tries.{after}
 use Rattle.credit_gate.proofs.gate.Gate.try_enter.Given as goal

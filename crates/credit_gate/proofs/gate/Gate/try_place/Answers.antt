@@ -1,4 +1,4 @@
-use Rattle.std.proofs.Common.{◌≡◌, ◌∙◌, ◌==◌, ℕ, ◌<◌, ap, arith, subst, sym}
+use Rattle.std.proofs.Common.{◌≡◌, ◌∙◌, ◌==◌, ◌<◌, ap, arith, subst, sym}
 use Rattle.atomic_table.specs.Seated.{TableId}
 use Rattle.credit_gate.specs.Rule.{Below}
 use Rattle.credit_gate.proofs.Seats.{below_tried}

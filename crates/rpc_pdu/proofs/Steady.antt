@@ -16,7 +16,6 @@ use Rattle.rpc_pdu.specs.Decoding.{begun, body_reads, decoded, if_good, with_bod
 use Rattle.rpc_pdu.proofs.Decoded.{begun_is, begun_none, body_at, decoded_is, no_header, start}
 use Rattle.rpc_pdu.proofs.Bodies.{behind}
 use Rattle.rpc_pdu.proofs.Lawful.{IsHeader, header_lawful}
-use Rattle.rpc_frag.proofs.Cuts.{IsSteady}
 
 abbrev Stays : List ℕ → List ℕ → Type 0
 Stays bytes piece = (decoded bytes ≡ Ok None) ⊎ (decoded (bytes ++ piece) ≡ decoded bytes)
@@ -72,8 +71,8 @@ header_there : (bytes : List ℕ) (read : Result (Header × Cursor) NdrBad) → 
 header_there bytes (Err bad) h a n e = let none : decoded bytes ≡ Ok None = no_header bytes bad h in absurd cc
 header_there bytes (Ok x) h a n e = judge_there bytes x.0 (judged x.0) a n (sym (decoded_is bytes x.0 x.1 h) ∙ e)
 
-pub steady : IsSteady decoded
-steady = record {
-  stays = λ bytes piece are. header_stays bytes piece are (header_item.reads (start bytes)) refl;
-  there = λ bytes a n e. header_there bytes (header_item.reads (start bytes)) refl a n e;
-}
+pub stays : (bytes piece : List ℕ) → AreBytes bytes → (decoded bytes ≡ Ok None) ⊎ (decoded (bytes ++ piece) ≡ decoded bytes)
+stays bytes piece are = header_stays bytes piece are (header_item.reads (start bytes)) refl
+
+pub there : (bytes : List ℕ) (p : Pdu) (size : ℕ) → decoded bytes ≡ Ok (Some (p, size)) → size ≤ length bytes
+there bytes p size e = header_there bytes (header_item.reads (start bytes)) refl p size e
