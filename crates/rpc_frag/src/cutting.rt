@@ -2,8 +2,8 @@
 ghost use Rattle.std.specs.Prelude.{◌≡◌, ◌≤◌, ◌-◌, IfOk, length, true};
 ghost use Rattle.rpc_frag.specs.Fragments.{IsCut, flags_of, part};
 
-use crate::fragment::{FIRST, LAST};
 use crate::Whole;
+use crate::fragment::{FIRST, LAST};
 use frs_base::Bytes;
 use rpc_pdu::{Pdu, PduBody, Request, Response};
 use std::alloc::{AllocError, Global};
@@ -24,7 +24,14 @@ fn flags_of(first: bool, last: bool) -> u8
 }
 
 /// A fragment with these bytes of the stub, of which so many come from here on.
-fn part(alloc: Global, whole: &Whole, response: bool, flags: u8, hint: u32, stub: &[u8]) -> Result<Pdu, AllocError>
+fn part(
+    alloc: Global,
+    whole: &Whole,
+    response: bool,
+    flags: u8,
+    hint: u32,
+    stub: &[u8],
+) -> Result<Pdu, AllocError>
     ensures { IfOk result (λ pdu. pdu ≡ part whole.now response flags hint stub.now) }
 {
     let (context, opnum) = (whole.context, whole.opnum);

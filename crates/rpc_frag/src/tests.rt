@@ -26,7 +26,12 @@ fn part(alloc: Global, call: u32, flags: u8) -> Result<Pdu, AllocError>
     })
 }
 
-fn expect_order(rt: &impl Abort, alloc: Global, parts: &[(u32, u8)], want: bool) -> Result<(), AllocError> {
+fn expect_order(
+    rt: &impl Abort,
+    alloc: Global,
+    parts: &[(u32, u8)],
+    want: bool,
+) -> Result<(), AllocError> {
     let mut assembler = Assembler::new();
     let mut order = true;
     for (call, flags) in parts {
