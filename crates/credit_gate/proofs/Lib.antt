@@ -1,0 +1,4 @@
+pub mod Totals
+pub mod Keeping
+pub mod Tries
+pub mod Seats

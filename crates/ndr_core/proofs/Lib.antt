@@ -1,0 +1,9 @@
+pub mod Steps
+pub mod Words
+pub mod Bytes
+pub mod Arrays
+pub mod Identifiers
+pub mod Text
+pub mod Optional
+pub mod Whole
+pub mod Loops

@@ -1,0 +1,9 @@
+pub mod Cursor
+pub mod Refusals
+pub mod Items
+pub mod Calls
+pub mod Arrays
+pub mod Identifiers
+pub mod Pointers
+pub mod Strings
+pub mod Laws

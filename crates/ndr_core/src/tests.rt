@@ -1,0 +1,139 @@
+// What no contract says: that memory is found, and bytes written out by hand.
+use super::*;
+use frs_base::Guid;
+use std::alloc::{AllocError, Global};
+use std::process::Abort;
+use std::test::Fail;
+
+fn expect_string(
+    rt: &impl Abort,
+    alloc: Global,
+    bytes: &[u8],
+    limit: u32,
+    want: Result<&[u16], NdrBad>,
+) {
+    let mut r = Reader::new(bytes);
+    match (r.take_string(alloc, limit), want) {
+        (Ok(units), Ok(text)) => {
+            assert!(rt; units.as_slice() == text, "{bytes:?}");
+            assert_eq!(rt; r.at(), bytes.len(), "{bytes:?}");
+        }
+        (Err(NdrError::Bad(bad)), Err(why)) => {
+            assert_eq!(rt; bad, why, "{bytes:?}");
+            assert_eq!(rt; r.at(), 0, "{bytes:?}");
+        }
+        _ => assert!(rt; false, "{bytes:?}"),
+    }
+}
+
+#[test]
+fn wire_strings(rt: HostRuntime) {
+    let alloc = rt.alloc();
+    let whole = [0, 0, 0, 0, 2, 0, 0, 0, 0x78, 0, 0, 0];
+    expect_string(&rt, alloc, &whole, 256, Ok(&[0x78]));
+    expect_string(&rt, alloc, &whole, 2, Ok(&[0x78]));
+    expect_string(&rt, alloc, &whole, 1, Err(NdrBad::Count { at: 0 }));
+    expect_string(&rt, alloc, &whole[..10], 256, Err(NdrBad::Short { at: 0 }));
+    expect_string(&rt, alloc, &whole[..10], 1, Err(NdrBad::Short { at: 0 }));
+    expect_string(&rt, alloc, &[0; 8], 256, Err(NdrBad::Terminator { at: 0 }));
+    let offset = [1, 0, 0, 0, 2, 0, 0, 0, 0x78, 0, 0, 0];
+    expect_string(&rt, alloc, &offset, 256, Err(NdrBad::Count { at: 0 }));
+    let early = [0, 0, 0, 0, 2, 0, 0, 0, 0, 0, 0, 0];
+    expect_string(&rt, alloc, &early, 256, Err(NdrBad::Terminator { at: 0 }));
+    let late = [0, 0, 0, 0, 2, 0, 0, 0, 0x78, 0, 0x79, 0];
+    expect_string(&rt, alloc, &late, 256, Err(NdrBad::Terminator { at: 0 }));
+    let huge = [0, 0, 0, 0, 0xff, 0xff, 0xff, 0xff, 0x78, 0, 0, 0];
+    expect_string(&rt, alloc, &huge, 256, Err(NdrBad::Short { at: 0 }));
+}
+
+/// Every kind of item once, with the padding before it.
+const ITEMS: [u8; 90] = [
+    0x01, 0x00, 0x03, 0x02, 0x07, 0x06, 0x05, 0x04, 0x5f, 0x2e, 0x7e, 0x89, 0xf3, 0x93, 0x76, 0x43,
+    0x9c, 0x9c, 0xfd, 0x22, 0x77, 0x49, 0x5c, 0x27, 0x08, 0x09, 0x0a, 0x0b, 0x0c, 0x0d, 0x0e, 0x0f,
+    0x10, 0x00, 0x00, 0x00, 0x5f, 0x2e, 0x7e, 0x89, 0xf3, 0x93, 0x76, 0x43, 0x9c, 0x9c, 0xfd, 0x22,
+    0x77, 0x49, 0x5c, 0x27, 0x03, 0x00, 0x00, 0x00, 0x00, 0x00, 0x00, 0x00, 0x02, 0x00, 0x00, 0x00,
+    0x00, 0x00, 0x02, 0x00, 0x00, 0x00, 0x00, 0x00, 0x02, 0x00, 0x00, 0x00, 0x78, 0x00, 0x00, 0x00,
+    0x00, 0x00, 0x13, 0x00, 0x00, 0x00, 0x00, 0x00, 0x14, 0x15,
+];
+
+/// The UUID of the interface FrsTransport.
+const FRS_TRANSPORT: u128 = 0x897e2e5f_93f3_4376_9c9c_fd2277495c27;
+
+fn write_items(alloc: Global) -> Result<Vec<u8>, AllocError> {
+    let id = Guid::of_number(FRS_TRANSPORT);
+    let mut out = Writer::new(alloc);
+    out.put_u8(0x01)?;
+    out.put_u16(0x0203)?;
+    out.put_u32(0x0405_0607)?;
+    out.put_guid(id)?;
+    out.put_u64(0x0f0e_0d0c_0b0a_0908)?;
+    out.put_handle(ContextHandle {
+        attributes: 0x10,
+        id,
+    })?;
+    out.put_conformant(3)?;
+    out.put_varying(2)?;
+    out.put_unique(true)?;
+    out.put_string(&[0x78])?;
+    out.put_reserved(2)?;
+    out.put_u8(0x13)?;
+    out.align(8)?;
+    out.put_bytes(&[0x14, 0x15])?;
+    Ok(out.into_vec())
+}
+
+#[test]
+fn items_are_written(rt: HostRuntime) -> Result<(), Fail> {
+    let bytes = write_items(rt.alloc())?;
+    assert!(rt; bytes.as_slice() == ITEMS.as_slice());
+    Ok(())
+}
+
+fn read_items(rt: &impl Abort, alloc: Global) -> Result<(), NdrError> {
+    let mut r = Reader::new(&ITEMS);
+    assert_eq!(rt; r.take_u8()?, 0x01);
+    assert_eq!(rt; r.take_u16()?, 0x0203);
+    assert_eq!(rt; r.take_u32()?, 0x0405_0607);
+    assert_eq!(rt; r.take_guid()?.number(), FRS_TRANSPORT);
+    assert_eq!(rt; r.take_u64()?, 0x0f0e_0d0c_0b0a_0908);
+    let handle = r.take_handle()?;
+    assert_eq!(rt; handle.attributes, 0x10);
+    assert_eq!(rt; handle.id.number(), FRS_TRANSPORT);
+    assert_eq!(rt; r.take_conformant(3)?, 3);
+    assert_eq!(rt; r.take_varying(2)?, 2);
+    assert!(rt; r.take_unique()?);
+    let text = r.take_string(alloc, 2)?;
+    assert!(rt; text.as_slice() == [0x78].as_slice());
+    r.take_reserved(2)?;
+    assert_eq!(rt; r.take_array::<1>()?, [0x13]);
+    r.align(8)?;
+    let last = r.take_bytes(alloc, 2)?;
+    assert!(rt; last.as_slice() == [0x14, 0x15].as_slice());
+    assert!(rt; r.is_done());
+    Ok(())
+}
+
+#[test]
+fn items_are_read(rt: HostRuntime) -> Result<(), Fail> {
+    read_items(&rt, rt.alloc())?;
+    Ok(())
+}
+
+#[test]
+fn refusals_name_the_place_behind_padding(rt: HostRuntime) {
+    let bytes = [1, 0, 0, 0, 2, 0, 0, 0, 3, 0];
+    let mut r = Reader::new(&bytes);
+    let _byte = r.take_u8();
+    assert_eq!(rt; r.take_conformant(1), Err(NdrBad::Count { at: 4 }));
+    assert_eq!(rt; r.take_varying(3), Err(NdrBad::Short { at: 4 }));
+    assert_eq!(rt; r.take_handle(), Err(NdrBad::Short { at: 4 }));
+    assert_eq!(rt; r.take_u64(), Err(NdrBad::Short { at: 8 }));
+    assert_eq!(rt; r.at(), 1);
+    let _word = r.take_u32();
+    let _last = r.take_u8();
+    assert_eq!(rt; r.take_u64(), Err(NdrBad::Short { at: 16 }));
+    assert_eq!(rt; r.align(8), Err(NdrBad::Short { at: 9 }));
+    let mut whole = Reader::new(&bytes[..8]);
+    assert_eq!(rt; whole.take_varying(3), Err(NdrBad::Count { at: 0 }));
+    assert_eq!(rt; NdrBad::Rest { at: 7 }.place(), 7);
+}

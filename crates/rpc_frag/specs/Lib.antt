@@ -1,0 +1,4 @@
+pub mod Fragments
+pub mod Assembling
+pub mod Streams
+pub mod Splitting

@@ -1,0 +1,32 @@
+// What holds of every PDU, each law the contract of a function that does nothing.
+ghost use Rattle.rpc_pdu.specs.Laws.{MoreChangesNothing, PdusAreReadAsSpelled, PdusAreSpelled, PdusReadBack, WhatIsReadIsSpelled};
+
+/// What [`encode`] gives is a spelling of its PDU.
+///
+/// [`encode`]: crate::encode
+pub fn pdus_are_spelled()
+    ensures { PdusAreSpelled }
+{}
+
+/// A spelling is read as its PDU, whatever follows: so no spelling begins another, bytes spell one
+/// PDU at most, and no spelling is refused.
+pub fn pdus_are_read_as_spelled()
+    ensures { PdusAreReadAsSpelled }
+{}
+
+/// What is read is a spelling of what it is read as.
+pub fn what_is_read_is_spelled()
+    ensures { WhatIsReadIsSpelled }
+{}
+
+/// What is written is read again, whatever follows.
+pub fn pdus_read_back()
+    ensures { PdusReadBack }
+{}
+
+/// More bytes change nothing of what [`decode`] said of some, but that there is no PDU yet.
+///
+/// [`decode`]: crate::decode
+pub fn more_bytes_change_nothing()
+    ensures { MoreChangesNothing }
+{}
