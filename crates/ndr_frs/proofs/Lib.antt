@@ -1,5 +1,0 @@
-pub mod Names
-pub mod Shared
-pub mod Stubs
-pub mod Requests
-pub mod Replies
