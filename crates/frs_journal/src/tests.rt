@@ -124,6 +124,7 @@ fn each_call_of_a_commit_stops_or_fails(rt: HostRuntime) -> Result<(), Fail> {
         (4, None, 1),
     ];
     for (row, (call, image, want)) in rows.iter().enumerate() {
+        assert!(rt; *call > 0, "in row {row}");
         let mut journal = journal(alloc)?;
         let armed = match image {
             Some(image) => journal.arm(*call, *image),
