@@ -25,6 +25,3 @@ pub use mark::{FileMark, Mark};
 pub use note::{LocalNote, Note};
 pub use refusal::Refusal;
 pub use reply::Reply;
-
-#[cfg(test)]
-mod tests;

@@ -1,6 +1,7 @@
 // Values in order, with room reserved for more.
 ghost use Rattle.std.specs.Prelude.{◌≡◌, ◌<◌, ◌≤◌, ◌+◌, ◌∷◌, ◌++◌, [], OnErr, OnOk, Some, insert, length, remove, slice_get, slice_index_or, slice_set};
 ghost use Rattle.std.specs.Fn.{FnOnceReturnsAtMut};
+ghost use Rattle.std.specs.List.{remove_range};
 
 use std::alloc::{AllocError, Global};
 use std::marker::Model;
@@ -30,6 +31,13 @@ impl<T> ReservedVec<T> {
         ensures { result ≡ record { items = []; room = 0 } }
     {
         ReservedVec { kept: None }
+    }
+
+    /// The values of a vector.
+    pub fn of(items: Vec<T>) -> ReservedVec<T>
+        ensures { result.items ≡ items.items }
+    {
+        ReservedVec { kept: Some(items) }
     }
 
     /// The values, lent.
@@ -122,6 +130,18 @@ impl<T: Drop> ReservedVec<T> {
     {
         if let Some(kept) = &mut self.kept {
             kept[at] = item;
+        }
+    }
+
+    /// Removes the values from one place on, below another.
+    pub fn remove_range(&mut self, from: usize, to: usize)
+        requires ordered { from ≤ to }
+        requires within { to ≤ length self.old.items }
+        ensures items { self.new.items ≡ remove_range self.old.items from to }
+        ensures room { self.old.room ≤ self.new.room }
+    {
+        if let Some(kept) = &mut self.kept {
+            let _removed = kept.drain(from..to);
         }
     }
 }

@@ -90,17 +90,30 @@ fn a_text_that_is_not_taken_stays_pending(rt: HostRuntime) -> Result<(), Fail> {
     Ok(())
 }
 
+/// Writes two texts, and answers which of them failed.
+fn two_writes(alloc: Global, sink: &mut MemSink) -> (bool, bool) {
+    let first = write_all(alloc, sink, b"first ".as_slice()).is_err();
+    let second = write_all(alloc, sink, b"second".as_slice()).is_err();
+    (first, second)
+}
+
+/// The sink took just this, and one call failed.
+fn took(sink: &MemSink, taken: &str) -> bool {
+    sink.bytes() == taken.as_bytes() && sink.faults() == 1
+}
+
 #[test]
 fn a_failing_write_leaves_what_was_taken_before(rt: HostRuntime) -> Result<(), Fail> {
     let alloc = rt.alloc();
     for (call, taken) in [(1, "second"), (2, "first ")] {
-        let mut sink = MemSink::new(alloc, vec![in alloc; call]?);
-        let first = write_all(alloc, &mut sink, b"first ".as_slice());
-        let second = write_all(alloc, &mut sink, b"second".as_slice());
-        assert_eq!(rt; first.is_err(), call == 1, "at call {call}");
-        assert_eq!(rt; second.is_err(), call == 2, "at call {call}");
-        assert_eq!(rt; sink.bytes(), taken.as_bytes(), "at call {call}");
-        assert_eq!(rt; sink.faults(), 1, "at call {call}");
+        let failing = vec![in alloc; call]?;
+        let mut sink = MemSink::new(alloc, failing);
+        assert_eq!(rt;
+            two_writes(alloc, &mut sink),
+            (call == 1, call == 2),
+            "at call {call}"
+        );
+        assert!(rt; took(&sink, taken), "at call {call}");
     }
     Ok(())
 }
@@ -145,22 +158,29 @@ impl Read for Faltering<'_> {
     }
 }
 
+/// Reads once, and answers whether this came of it: the count or the fault, the bytes, and the
+/// count of faults then.
+fn reads(
+    source: &mut StdSource<Faltering>,
+    answer: Result<usize, Failed>,
+    bytes: &[u8],
+    faults: u64,
+) -> bool {
+    let mut buf = [0; 8];
+    let read = source.read(&mut buf);
+    read == answer && buf.starts_with(bytes) && source.faults() == faults
+}
+
 #[test]
 fn a_reader_that_fails_in_mid_stream_reads_on(rt: HostRuntime) -> Result<(), Fail> {
     let mut source = StdSource::new(Faltering {
         rest: b"abc".as_slice(),
         calls: 0,
     });
-    let mut buf = [0; 8];
-    assert_eq!(rt; source.read(&mut buf), Ok(2));
-    assert_eq!(rt; &buf[..2], b"ab".as_slice());
-    assert_eq!(rt; source.faults(), 0);
-    assert_eq!(rt; source.read(&mut buf), Err(Failed));
-    assert_eq!(rt; source.faults(), 1);
-    assert_eq!(rt; source.read(&mut buf), Ok(1));
-    assert_eq!(rt; &buf[..1], b"c".as_slice());
-    assert_eq!(rt; source.read(&mut buf), Ok(0));
-    assert_eq!(rt; source.faults(), 1);
+    assert!(rt; reads(&mut source, Ok(2), b"ab".as_slice(), 0));
+    assert!(rt; reads(&mut source, Err(Failed), b"".as_slice(), 1));
+    assert!(rt; reads(&mut source, Ok(1), b"c".as_slice(), 1));
+    assert!(rt; reads(&mut source, Ok(0), b"".as_slice(), 1));
     Ok(())
 }
 

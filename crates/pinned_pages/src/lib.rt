@@ -13,6 +13,3 @@ pub use answer::FileAnswer;
 pub use body::Body;
 pub use pinned::Pinned;
 pub use records::Records;
-
-#[cfg(test)]
-mod tests;

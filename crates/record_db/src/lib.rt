@@ -19,6 +19,3 @@ pub use laws::{
 };
 pub use records::find_record;
 pub use staged::Staged;
-
-#[cfg(test)]
-mod tests;

@@ -137,86 +137,129 @@ fn path_of(alloc: Global, components: &[&str]) -> Result<List<Name>, Fail> {
     Ok(List::of(names))
 }
 
-/// The row is read as this line, and the line is printed as the row.
-fn expect_row(rt: &impl Abort, alloc: Global, row: &str, line: Line) -> Result<(), Fail> {
+// What owns a line or a list of lines lends it to one function: each early return past one that is
+// owned makes a proof much longer.
+
+/// Whether the row is read as this one line.
+fn is_read_as(alloc: Global, row: &str, line: &Line) -> Result<bool, Fail> {
     let lines = parse(alloc, row.as_bytes())?;
-    assert_eq!(rt; lines.len(), 1, "{row:?}");
-    assert!(rt; lines[0] == line, "{row:?} {line:?}");
-    for read in &lines {
-        assert_eq!(rt; print(alloc, read)?.as_str(), row);
-    }
+    Ok(lines.len() == 1 && lines[0] == *line)
+}
+
+/// The row is read as this line, and the line is printed as the row.
+fn try_row(rt: &impl Abort, alloc: Global, row: &str, line: &Line) -> Result<(), Fail> {
+    assert!(rt; is_read_as(alloc, row, line)?, "{row:?} {line:?}");
+    assert_eq!(rt; print(alloc, line)?.as_str(), row);
     Ok(())
+}
+
+/// The same of a line that is made for it.
+fn expect_row(
+    rt: &impl Abort,
+    alloc: Global,
+    row: &str,
+    line: Result<Line, Fail>,
+) -> Result<(), Fail> {
+    let line = line?;
+    try_row(rt, alloc, row, &line)
+}
+
+/// The line with this keyword that says no more than a member's name.
+fn line_of(alloc: Global, keyword: &str, name: &str) -> Result<Line, Fail> {
+    let name = bytes_of(alloc, name)?;
+    match keyword {
+        "show" => Ok(Line::Show { name }),
+        "tree" => Ok(Line::Tree { name }),
+        "sums" => Ok(Line::Sums { name }),
+        "count" => Ok(Line::Count { name }),
+        _ => Err("no such keyword")?,
+    }
+}
+
+fn member_line(alloc: Global, name: &str, kind: MemberKind) -> Result<Line, Fail> {
+    let name = bytes_of(alloc, name)?;
+    Ok(Line::Member { name, kind })
+}
+
+fn pull_line(alloc: Global, name: &str, other: &str) -> Result<Line, Fail> {
+    let name = bytes_of(alloc, name)?;
+    let other = bytes_of(alloc, other)?;
+    Ok(Line::Pull { name, other })
 }
 
 #[test]
 fn members_are_read_and_printed(rt: HostRuntime) -> Result<(), Fail> {
     let alloc = rt.alloc();
+    for (row, name, kind) in [
+        ("member a primary", "a", MemberKind::Primary),
+        ("member abcdefgh plain", "abcdefgh", MemberKind::Plain),
+    ] {
+        expect_row(&rt, alloc, row, member_line(alloc, name, kind))?;
+    }
+    for (row, keyword) in [
+        ("show z", "show"),
+        ("tree z", "tree"),
+        ("sums z", "sums"),
+        ("count z", "count"),
+    ] {
+        expect_row(&rt, alloc, row, line_of(alloc, keyword, "z"))?;
+    }
+    expect_row(&rt, alloc, "pull a b", pull_line(alloc, "a", "b"))
+}
+
+/// The line with this keyword of the member `a` that says no more than a path.
+fn path_line(alloc: Global, keyword: &str, components: &[&str]) -> Result<Line, Fail> {
     let name = bytes_of(alloc, "a")?;
-    let kind = MemberKind::Primary;
-    expect_row(&rt, alloc, "member a primary", Line::Member { name, kind })?;
-    let name = bytes_of(alloc, "abcdefgh")?;
-    let kind = MemberKind::Plain;
-    expect_row(
-        &rt,
-        alloc,
-        "member abcdefgh plain",
-        Line::Member { name, kind },
-    )?;
+    let path = path_of(alloc, components)?;
+    match keyword {
+        "mkdir" => Ok(Line::Mkdir { name, path }),
+        "remove" => Ok(Line::Remove { name, path }),
+        "fill" => Ok(Line::Fill {
+            name,
+            path,
+            length: 4_294_967_295,
+        }),
+        _ => Ok(Line::Change {
+            name,
+            path,
+            moment: 0,
+        }),
+    }
+}
+
+fn move_line(alloc: Global, from: &[&str], to: &[&str]) -> Result<Line, Fail> {
     let name = bytes_of(alloc, "a")?;
-    let other = bytes_of(alloc, "b")?;
-    expect_row(&rt, alloc, "pull a b", Line::Pull { name, other })?;
-    let name = bytes_of(alloc, "z")?;
-    expect_row(&rt, alloc, "show z", Line::Show { name })?;
-    let name = bytes_of(alloc, "z")?;
-    expect_row(&rt, alloc, "tree z", Line::Tree { name })?;
-    let name = bytes_of(alloc, "z")?;
-    expect_row(&rt, alloc, "sums z", Line::Sums { name })?;
-    let name = bytes_of(alloc, "z")?;
-    expect_row(&rt, alloc, "count z", Line::Count { name })
+    let from = path_of(alloc, from)?;
+    let to = path_of(alloc, to)?;
+    Ok(Line::Move { name, from, to })
+}
+
+fn consume_line(alloc: Global, moment: u64) -> Result<Line, Fail> {
+    let name = bytes_of(alloc, "a")?;
+    Ok(Line::Consume { name, moment })
 }
 
 #[test]
 fn files_are_read_and_printed(rt: HostRuntime) -> Result<(), Fail> {
     let alloc = rt.alloc();
-    let name = bytes_of(alloc, "a")?;
-    let path = path_of(alloc, &["x", "Y.z"])?;
-    expect_row(&rt, alloc, "mkdir a x/Y.z", Line::Mkdir { name, path })?;
-    let name = bytes_of(alloc, "a")?;
-    let path = path_of(alloc, &["!", "~"])?;
-    expect_row(&rt, alloc, "remove a !/~", Line::Remove { name, path })?;
-    let name = bytes_of(alloc, "a")?;
-    let from = path_of(alloc, &["x", "y"])?;
-    let to = path_of(alloc, &["z"])?;
-    expect_row(&rt, alloc, "move a x/y z", Line::Move { name, from, to })?;
-    let name = bytes_of(alloc, "a")?;
-    let path = path_of(alloc, &["x"])?;
-    let length = 4_294_967_295;
-    expect_row(
-        &rt,
-        alloc,
-        "fill a x 4294967295",
-        Line::Fill { name, path, length },
-    )?;
-    let name = bytes_of(alloc, "a")?;
-    let moment = 2_305_843_009_213_693_951;
-    expect_row(
-        &rt,
-        alloc,
-        "consume a 2305843009213693951",
-        Line::Consume { name, moment },
-    )?;
+    let line = path_line(alloc, "mkdir", &["x", "Y.z"]);
+    expect_row(&rt, alloc, "mkdir a x/Y.z", line)?;
+    let line = path_line(alloc, "remove", &["!", "~"]);
+    expect_row(&rt, alloc, "remove a !/~", line)?;
+    let line = move_line(alloc, &["x", "y"], &["z"]);
+    expect_row(&rt, alloc, "move a x/y z", line)?;
+    let line = path_line(alloc, "fill", &["x"]);
+    expect_row(&rt, alloc, "fill a x 4294967295", line)?;
+    let line = consume_line(alloc, 2_305_843_009_213_693_951);
+    expect_row(&rt, alloc, "consume a 2305843009213693951", line)?;
+    expect_row(&rt, alloc, "change a x 0", path_line(alloc, "change", &["x"]))
+}
+
+fn put_line(alloc: Global, text: &str) -> Result<Line, Fail> {
     let name = bytes_of(alloc, "a")?;
     let path = path_of(alloc, &["x"])?;
-    expect_row(
-        &rt,
-        alloc,
-        "change a x 0",
-        Line::Change {
-            name,
-            path,
-            moment: 0,
-        },
-    )
+    let text = bytes_of(alloc, text)?;
+    Ok(Line::Put { name, path, text })
 }
 
 #[test]
@@ -229,10 +272,7 @@ fn a_text_keeps_its_blanks(rt: HostRuntime) -> Result<(), Fail> {
         ("put a x \u{e9} #\t", "\u{e9} #\t"),
     ];
     for (row, text) in rows {
-        let name = bytes_of(rt.alloc(), "a")?;
-        let path = path_of(rt.alloc(), &["x"])?;
-        let text = bytes_of(rt.alloc(), text)?;
-        expect_row(&rt, rt.alloc(), row, Line::Put { name, path, text })?;
+        expect_row(&rt, rt.alloc(), row, put_line(rt.alloc(), text))?;
     }
     Ok(())
 }
@@ -248,38 +288,50 @@ fn mkdir_row(alloc: Global, component: &str, count: u8) -> Result<String, Fail> 
     Ok(row)
 }
 
+/// How many lines are read from a `mkdir` row with a path of so many of these components.
+fn lines_with(alloc: Global, component: &str, count: u8) -> Result<Result<usize, ParseError>, Fail> {
+    let row = mkdir_row(alloc, component, count)?;
+    Ok(parse(alloc, row.as_bytes()).map(|lines| lines.len()))
+}
+
+/// A component of so many characters.
+fn component(alloc: Global, length: u16) -> Result<String, Fail> {
+    let mut text = String::new(alloc);
+    for _ in 0..length {
+        text.push('c')?;
+    }
+    Ok(text)
+}
+
+/// The same of components of so many characters.
+fn lines_of(alloc: Global, length: u16, count: u8) -> Result<Result<usize, ParseError>, Fail> {
+    let component = component(alloc, length)?;
+    lines_with(alloc, component.as_str(), count)
+}
+
 #[test]
 fn paths_have_64_components_of_255_characters(rt: HostRuntime) -> Result<(), Fail> {
-    let mut longest = String::new(rt.alloc());
-    for _ in 0..255 {
-        longest.push('c')?;
-    }
-    let row = mkdir_row(rt.alloc(), longest.as_str(), 64)?;
-    assert_eq!(rt; parse(rt.alloc(), row.as_bytes())?.len(), 1);
-    let row = mkdir_row(rt.alloc(), "c", 65)?;
-    assert_eq!(rt;
-        parse(rt.alloc(), row.as_bytes()).err(),
-        Some(ParseError::LineBad { number: 1 })
-    );
-    longest.push('c')?;
-    let row = mkdir_row(rt.alloc(), longest.as_str(), 1)?;
-    assert_eq!(rt;
-        parse(rt.alloc(), row.as_bytes()).err(),
-        Some(ParseError::LineBad { number: 1 })
-    );
+    let bad = Err(ParseError::LineBad { number: 1 });
+    assert_eq!(rt; lines_of(rt.alloc(), 255, 64)?, Ok(1));
+    assert_eq!(rt; lines_of(rt.alloc(), 1, 65)?, bad);
+    assert_eq!(rt; lines_of(rt.alloc(), 256, 1)?, bad);
     Ok(())
+}
+
+/// The number of the bad row, and how many lines stand before it.
+fn prefix_of(alloc: Global, text: &[u8]) -> Result<(Option<u64>, usize), Fail> {
+    let prefix = parse_prefix(alloc, text)?;
+    Ok((prefix.bad, prefix.lines.len()))
 }
 
 #[test]
 fn lines_before_a_bad_row_are_kept(rt: HostRuntime) -> Result<(), Fail> {
     let text = b"# two lines\nshow a\n\ntree a\nshow\ncount a\n";
-    let prefix = parse_prefix(rt.alloc(), text)?;
-    assert_eq!(rt; prefix.bad, Some(5));
-    assert_eq!(rt; prefix.lines.len(), 2);
+    assert_eq!(rt; prefix_of(rt.alloc(), text)?, (Some(5), 2));
     assert_eq!(rt; row_number(text, 0), Some(2));
     assert_eq!(rt; row_number(text, 1), Some(4));
     assert_eq!(rt; row_number(text, 3), Some(6));
     assert_eq!(rt; row_number(text, 4), None);
-    assert_eq!(rt; parse_prefix(rt.alloc(), b"show a")?.bad, None);
+    assert_eq!(rt; prefix_of(rt.alloc(), b"show a")?, (None, 1));
     Ok(())
 }

@@ -10,6 +10,3 @@ mod made;
 
 pub use consume::next_record;
 pub use consumed::{ConsumeError, Consumed};
-
-#[cfg(test)]
-mod tests;

@@ -119,6 +119,7 @@ fn vectors(rt: HostRuntime) -> Result<(), Fail> {
 fn versions_are_added_and_joined(rt: HostRuntime) -> Result<(), Fail> {
     let alloc = rt.alloc();
     let mut all = Vector::empty();
+    let mut grown = GrowingVector::empty();
     for (member, version, want) in [
         (1, 9, "a:9..10"),
         (1, 11, "a:9..10 a:11..12"),
@@ -130,8 +131,29 @@ fn versions_are_added_and_joined(rt: HostRuntime) -> Result<(), Fail> {
         (1, 20, "a:8..12 a:20..21 b:10..12"),
     ] {
         let db = database_of(member);
-        all.add(alloc, Gvsn { db, version })?;
+        let g = Gvsn { db, version };
+        all.add(alloc, g)?;
+        grown.reserve(alloc, g)?;
+        grown.cover(g);
         assert!(rt; is_of(alloc, &all, want)?, "with {version}");
+        assert!(rt;
+            is_of(alloc, &grown.copy(alloc)?, want)?,
+            "grown by {version}"
+        );
     }
+    let more = grown.merged(alloc, &vector(alloc, "a:12..20 b:3..5")?)?;
+    assert!(rt; is_of(alloc, &more.copy(alloc)?, "a:8..21 b:3..5 b:10..12")?);
+    assert!(rt;
+        more.covers(Gvsn {
+            db: database_of(2),
+            version: 4
+        })
+    );
+    assert!(rt;
+        !grown.covers(Gvsn {
+            db: database_of(2),
+            version: 4
+        })
+    );
     Ok(())
 }

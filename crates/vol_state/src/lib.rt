@@ -36,6 +36,3 @@ pub use operation::{LocalOp, Refused};
 pub use record::VolRecord;
 pub use sums::content_sum;
 pub use volume::Volume;
-
-#[cfg(test)]
-mod tests;

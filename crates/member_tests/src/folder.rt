@@ -2,7 +2,7 @@
 ghost use Rattle.std.specs.Prelude.{IfOk};
 ghost use Rattle.folder_core.specs.Replay.{IsEarlyEvent};
 
-use super::*;
+use folder_core::{Event, Folder, LocalNote, Note, Reply};
 use frs_base::{
     Bytes, Guid, Gvsn, List, MemberKind, Name, Phase, Sum, Uid, content_set, database_of,
 };

@@ -1,8 +1,8 @@
-use crate::{LocalOp, Object, Refused, VolCmd, Volume};
 use frs_base::{Bytes, Kind, List, Name, Sum, database_of};
 use std::alloc::Global;
 use std::process::Abort;
 use std::test::Fail;
+use vol_state::{LocalOp, Object, Refused, VolCmd, Volume};
 
 fn name_of(alloc: Global, text: &str) -> Result<Name, Fail> {
     let mut units = Vec::new(alloc);

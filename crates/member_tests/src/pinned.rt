@@ -1,7 +1,7 @@
 // What no contract says: that a book is pinned and that what it then does leaves the pinned state;
 // and a body read by hand.
-use super::*;
 use frs_base::{Bytes, Gvsn, MemberKind, Name, Sum, Uid, content_set, database_of};
+use pinned_pages::{Body, Pinned};
 use record_db::Book;
 use std::alloc::Global;
 use std::process::Abort;

@@ -2,12 +2,12 @@
 ghost use Rattle.std.specs.Prelude.{◌≡◌};
 ghost use Rattle.usn_consumer.specs.Next.{have_clocks};
 
-use super::*;
 use frs_base::{Bytes, Guid, Gvsn, Kind, MemberKind, Name, Sum, Uid, content_set, database_of};
 use record_db::Book;
 use std::alloc::Global;
 use std::process::Abort;
 use std::test::Fail;
+use usn_consumer::{ConsumeError, Consumed, next_record};
 use version_vector::Vector;
 use vol_state::{VolCmd, Volume};
 use win_order::Update;
@@ -103,9 +103,8 @@ fn replica_command(alloc: Global, line: &str) -> Result<Option<VolCmd>, Fail> {
     Ok(None)
 }
 
-/// A volume of the first member to which this was done, line by line.
-fn volume_of(alloc: Global, steps: &str) -> Result<Volume, Fail> {
-    let mut volume = Volume::new(database_of(1));
+/// Does this to a volume, line by line.
+fn fill_volume(alloc: Global, volume: &mut Volume, steps: &str) -> Result<(), Fail> {
     for line in steps.split("; ") {
         let local = local_command(alloc, line)?;
         let replica = replica_command(alloc, line)?;
@@ -113,7 +112,7 @@ fn volume_of(alloc: Global, steps: &str) -> Result<Volume, Fail> {
         let ready = volume.ready(alloc, cmd)?;
         volume.take(ready);
     }
-    Ok(volume)
+    Ok(())
 }
 
 /// The record of a text: member and version of its UID, fence, clock, create time, `live` or
@@ -152,15 +151,14 @@ fn record_of(alloc: Global, text: &str) -> Result<Update, Fail> {
     })
 }
 
-/// A book of the first member that consumes this USN next, and holds this record, if any.
-fn book_of(
+/// Has a book consume this USN next, and hold this record, if any.
+fn fill_book(
     alloc: Global,
-    kind: MemberKind,
+    book: &mut Book,
     finished: bool,
     consumed: u64,
     held: &str,
-) -> Result<Book, Fail> {
-    let mut book = Book::new(kind, database_of(1), content_set());
+) -> Result<(), Fail> {
     book.record_local(alloc, consumed.saturating_sub(1), None)?;
     if finished {
         book.finish(alloc, &Vector::empty())?;
@@ -168,7 +166,7 @@ fn book_of(
     if held != "none" {
         book.adopt(alloc, record_of(alloc, held)?, None)?;
     }
-    Ok(book)
+    Ok(())
 }
 
 fn member_of(db: Guid) -> u128 {
@@ -228,22 +226,41 @@ fn answer(
     Ok(next_record(volume, book, moment))
 }
 
-/// The answer of a row: what was done to the volume, then the member's kind, its phase and the USN
-/// that it consumes next, the record that it holds, and the moment.
-fn row_answer(alloc: Global, row: &str) -> Result<Result<Consumed, ConsumeError>, Fail> {
-    let mut parts = row.split(" | ");
-    let volume = volume_of(alloc, parts.next().unwrap_or(""))?;
-    let mut words = parts.next().unwrap_or("").split(' ');
-    let kind = if words.next() == Some("primary") {
+/// The kind of a member.
+fn kind_of(word: &str) -> MemberKind {
+    if word == "primary" {
         MemberKind::Primary
     } else {
         MemberKind::Plain
-    };
+    }
+}
+
+/// The answer of the parts of a row over a volume and a book that have done nothing.
+fn parts_answer(
+    alloc: Global,
+    volume: &mut Volume,
+    book: &mut Book,
+    parts: [&str; 4],
+) -> Result<Result<Consumed, ConsumeError>, Fail> {
+    let [steps, member, held, moment] = parts;
+    fill_volume(alloc, volume, steps)?;
+    let mut words = member.split(' ').skip(1);
     let finished = words.next() == Some("normal");
     let consumed = number(words.next())?;
-    let held = parts.next().unwrap_or("none");
-    let book = book_of(alloc, kind, finished, consumed, held)?;
-    answer(&volume, &book, number(parts.next())?)
+    fill_book(alloc, book, finished, consumed, held)?;
+    answer(volume, book, moment.parse::<u64>()?)
+}
+
+/// The answer of a row: what was done to the volume, then the member's kind, its phase and the USN
+/// that it consumes next, the record that it holds, and the moment.
+fn row_answer(alloc: Global, row: &str) -> Result<Result<Consumed, ConsumeError>, Fail> {
+    let (steps, rest) = row.split_once(" | ").ok_or("no steps")?;
+    let (member, rest) = rest.split_once(" | ").ok_or("no member")?;
+    let (held, moment) = rest.split_once(" | ").ok_or("no record")?;
+    let (kind, _) = member.split_once(' ').ok_or("no kind")?;
+    let mut volume = Volume::new(database_of(1));
+    let mut book = Book::new(kind_of(kind), database_of(1), content_set());
+    parts_answer(alloc, &mut volume, &mut book, [steps, member, held, moment])
 }
 
 fn try_rows(rt: &impl Abort, alloc: Global, rows: &str) -> Result<(), Fail> {

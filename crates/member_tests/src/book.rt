@@ -1,6 +1,6 @@
 // What no contract says: that the calls succeed, and books written out by hand.
-use super::*;
 use frs_base::{Bytes, Guid, Gvsn, MemberKind, Name, Phase, Sum, Uid, content_set, database_of};
+use record_db::{Book, BookCmd};
 use std::alloc::Global;
 use std::process::Abort;
 use std::test::Fail;
