@@ -1,4 +1,4 @@
--- Own versions and clocks stay in their bounds.
+-- Versions and clocks stay in their bounds.
 use Rattle.std.proofs.Common.{◌≡◌, ◌<◌, ◌≤◌, ◌^◌, ℕ, true, List, Option, Some, None, sym, ap, ◌∙◌, subst, inl, inr, arith}
 use Rattle.std.specs.Prelude.{MatchOption, option_map}
 use Rattle.std.specs.List.{AllByRecursion}
@@ -28,40 +28,19 @@ clocks_put set (Some m) records clocks has = put_all (λ u. u.clock < 2 ^ 62) (i
 pub bounds_recorded : (old new : BookState) (made : Option Update) → IsInBounds old → HasClock made → Changes (RecordLocal old.consumed made) old new → IsInBounds new
 bounds_recorded old new made h has c = record {
   begun = let more = c.consumed in let begun = h.begun in omega (arith, more, begun);
-  ahead = λ g covered own. ahead g (sym (c.vector.covering g) ∙ covered) (own ∙ c.own);
   clocks = subst (AllByRecursion (λ u. u.clock < 2 ^ 62)) (sym c.records) (clocks_put old.set made old.records h.clocks has);
 }
-  where
-    ahead : (g : Gvsn) → plus (covers old.vector) (own_version old old.consumed) g ≡ true → g.db ≡ old.own → g.version < new.consumed
-    ahead g covered own = elim (plus_cases (covers old.vector) (own_version old old.consumed) g covered) [
-      | inl same ↦ let version = ap (λ z. z.version) same in let more = c.consumed in omega (arith, version, more)
-      | inr before ↦ let low = h.ahead g before own in let more = c.consumed in omega (arith, low, more)
-    ]
 
 -- an update is taken
-pub bounds_adopted : (old new : BookState) (u : Update) (form : Option (List ℕ)) → IsInBounds old → u.clock < 2 ^ 62 → (u.gvsn.db ≡ old.own → u.gvsn.version < old.consumed) → Changes (Adopt u form) old new → IsInBounds new
-bounds_adopted old new u form h has made c = record {
+pub bounds_adopted : (old new : BookState) (u : Update) (form : Option (List ℕ)) → IsInBounds old → u.clock < 2 ^ 62 → Changes (Adopt u form) old new → IsInBounds new
+bounds_adopted old new u form h has c = record {
   begun = subst (λ n. 9 ≤ n) (sym c.consumed) h.begun;
-  ahead = λ g covered own. subst (λ n. g.version < n) (sym c.consumed) (ahead g (sym (c.vector.covering g) ∙ covered) (own ∙ c.own));
   clocks = subst (AllByRecursion (λ u. u.clock < 2 ^ 62)) (sym c.records) (clocks_put old.set (Some u) old.records h.clocks has);
 }
-  where
-    ahead : (g : Gvsn) → plus (covers old.vector) u.gvsn g ≡ true → g.db ≡ old.own → g.version < old.consumed
-    ahead g covered own = elim (plus_cases (covers old.vector) u.gvsn g covered) [
-      | inl same ↦ subst (λ (z : Gvsn). z.version < old.consumed) (sym same) (made (ap (λ z. z.db) (sym same) ∙ own))
-      | inr before ↦ h.ahead g before own
-    ]
 
 -- a round is finished
-pub bounds_finished : (old new : BookState) (sent : List Interval) → IsInBounds old → ((g : Gvsn) → covers sent g ≡ true → g.db ≡ old.own → g.version < old.consumed) → Changes (Finish sent) old new → IsInBounds new
-bounds_finished old new sent h made c = record {
+pub bounds_finished : (old new : BookState) (sent : List Interval) → IsInBounds old → Changes (Finish sent) old new → IsInBounds new
+bounds_finished old new sent h c = record {
   begun = subst (λ n. 9 ≤ n) (sym c.consumed) h.begun;
-  ahead = λ g covered own. subst (λ n. g.version < n) (sym c.consumed) (ahead g (sym (c.vector.covering g) ∙ covered) (own ∙ c.own));
   clocks = subst (AllByRecursion (λ u. u.clock < 2 ^ 62)) (sym c.records) h.clocks;
 }
-  where
-    ahead : (g : Gvsn) → both (covers old.vector) (covers sent) g ≡ true → g.db ≡ old.own → g.version < old.consumed
-    ahead g covered own = elim (both_cases (covers old.vector) (covers sent) g covered) [
-      | inl before ↦ h.ahead g before own
-      | inr new ↦ made g new own
-    ]

@@ -1,5 +1,5 @@
 -- Commands on the book that may be taken, and what they answer.
-use Rattle.std.proofs.Common.{◌≡◌, ◌<◌, ◌≤◌, ◌-◌, ◌^◌, ◌&&◌, ℕ, Bool, true, false, cond, eqb, leb, ltb, List, Option, Some, None, Result, Ok, Err, refl, sym, ap, ◌∙◌, subst, inl, inr, arith}
+use Rattle.std.proofs.Common.{◌≡◌, ◌<◌, ◌≤◌, ◌-◌, ◌^◌, ◌&&◌, not, ℕ, Bool, true, false, cond, eqb, leb, ltb, List, Option, Some, None, Result, Ok, Err, refl, sym, ap, ◌∙◌, subst, inl, inr, arith}
 use Rattle.std.specs.Prelude.{[], if◌then◌else◌, IfOk, MatchBool, IsSome, unwrap_or}
 use Rattle.std.proofs.lemmas.Bool.Decides.{nat_tests}
 use Rattle.frs_base.specs.Versions.{same_gvsn}
@@ -34,7 +34,7 @@ use Rattle.folder_core.specs.Consume.{AnswersConsume, AnswersMade, AnswersRecord
 use Rattle.folder_core.specs.Adopt.{ChecksForm, Stages, adopt_refusal}
 use Rattle.folder_core.specs.Given.{MayTake}
 use Rattle.folder_core.specs.Sound.{IsSound}
-use Rattle.folder_core.proofs.Fitting.{is_clear, is_fit}
+use Rattle.folder_core.proofs.Fitting.{gives_way_to, is_clear, is_fit}
 use Rattle.folder_core.proofs.Held.{each_of, record_there}
 use Rattle.folder_core.proofs.Staging.{nothing_staged}
 use Rattle.folder_core.proofs.Sounding.{IsStagedOf, adopted_sound, recorded_sound}
@@ -88,6 +88,9 @@ own_made m moment u h left is =
 has_next_of : (n next : ℕ) → n ≤ next → next < 2 ^ 64 - 1 → ltb n (2 ^ 64 - 1) ≡ true
 has_next_of n next low high = grind (arith, nat_tests)
 
+same_number : (n : ℕ) → eqb n n ≡ true
+same_number n = grind (arith, nat_tests)
+
 both_so : (a b : Bool) → a ≡ true → b ≡ true → (a && b) ≡ true
 both_so true true p q = refl
 both_so true false p q = absurd (cc)
@@ -98,7 +101,7 @@ new_version : (m : Machine) → IsSound m → (new : BookState) → ((g : Gvsn) 
 new_version m h new covering same =
     let g = own_version m.book m.book.consumed in
     let covered : covers m.book.vector g ≡ true = ap (λ l. covers l g) (sym same) ∙ (covering g ∙ plus_new (covers m.book.vector) g) in
-    let low : m.book.consumed < m.book.consumed = h.bounds.ahead g covered refl in
+    let low : m.book.consumed < m.book.consumed = h.order.book.made g covered refl in
     omega (arith, low)
 
 -- the next journal record may be consumed
@@ -112,7 +115,7 @@ may_record m moment made h numbers e has = by made (comes_of m moment made e) ha
         let apart = comes.left in
         let left : m.book.consumed < m.volume.next_usn = grind (arith, nat_tests) in
         record {
-          allowed = both_so _ _ (has_next_of m.book.consumed m.volume.next_usn low numbers) refl;
+          allowed = both_so _ _ (same_number m.book.consumed) (both_so _ _ (has_next_of m.book.consumed m.volume.next_usn low numbers) refl);
           sound = λ new book c. recorded_sound m moment None new h comes.is tt left book c;
           changes = λ new c. new_version m h new c.vector.covering;
         }
@@ -122,7 +125,8 @@ may_record m moment made h numbers e has = by made (comes_of m moment made e) ha
         let left : m.book.consumed < m.volume.next_usn = grind (arith, nat_tests) in
         let own = own_made m moment u h left comes.is in
         record {
-          allowed = both_so _ _ (has_next_of m.book.consumed m.volume.next_usn low numbers) (ap (λ g. same_gvsn g (own_version m.book m.book.consumed)) own ∙ same_gvsn_refl (own_version m.book m.book.consumed));
+          allowed = both_so _ _ (same_number m.book.consumed) (both_so _ _ (has_next_of m.book.consumed m.volume.next_usn low numbers)
+              (ap (λ g. same_gvsn g (own_version m.book m.book.consumed)) own ∙ same_gvsn_refl (own_version m.book m.book.consumed)));
           sound = λ new book c. recorded_sound m moment (Some u) new h comes.is has left book c;
           changes = λ new c. new_version m h new c.vector.covering;
         }
@@ -186,8 +190,8 @@ may_adopt m u form h fits none staged =
     let last = clear.taken.version in
     let below : u.gvsn.version < 2 ^ 64 - 1 = omega (arith, fits, last) in
     record {
-      allowed = small u.gvsn.version below;
-      sound = λ new book c. adopted_sound m u form new h clear.taken.set_is clear.taken.clock clear.version (λ set. is_fit m u h.order clear set) staged book c;
+      allowed = both_so _ _ (small u.gvsn.version below) (both_so _ _ (ap not clear.version_ahead) (both_so _ _ (ap not clear.file_ahead) (both_so _ _ (ap not clear.new) (gives_way_to m u clear))));
+      sound = λ new book c. adopted_sound m u form new h clear.taken.set_is clear.taken.clock (λ set. is_fit m u h.order clear set) staged book c;
       changes = λ new c same. (let covered : covers m.book.vector u.gvsn ≡ true = ap (λ l. covers l u.gvsn) (sym same) ∙ (c.vector.covering u.gvsn ∙ plus_new (covers m.book.vector) u.gvsn) in cc (covered, clear.new));
     }
   where

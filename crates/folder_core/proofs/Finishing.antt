@@ -1,6 +1,6 @@
 -- The least own version of a vector that isn't consumed.
 use Rattle.std.proofs.Common.{◌≡◌, ◌<◌, ◌≤◌, ℕ, max, Bool, true, false, cond, eqb, leb, ltb, ◌&&◌, ◌||◌, ◌⊎◌, List, [], ◌∷◌, Some, None, refl, sym, ap, ◌∙◌, subst, inl, inr, arith}
-use Rattle.std.specs.Prelude.{find}
+use Rattle.std.specs.Prelude.{find, is_none}
 use Rattle.std.specs.Cmp.Lexicographic.{pointwise}
 use Rattle.std.proofs.lemmas.Bool.Decides.{nat_tests}
 use Rattle.frs_base.specs.declared.version.Gvsn.{Gvsn}
@@ -8,7 +8,8 @@ use Rattle.version_vector.specs.Versions.{IsCanonical, covers, inside, is_before
 use Rattle.version_vector.specs.declared.interval.Interval.{Interval}
 use Rattle.record_db.specs.declared.command.BookCmd.TheVariants as cmd
 use Rattle.folder_core.specs.Machine.{Machine}
-use Rattle.folder_core.specs.Finish.{HasNoneAhead, IsLeastAhead, is_past}
+use Rattle.record_db.specs.Steps.{is_past}
+use Rattle.folder_core.specs.Finish.{HasNoneAhead, IsLeastAhead}
 use Rattle.folder_core.specs.Given.{StaysSound}
 use Rattle.folder_core.specs.Sound.{IsSound}
 use Rattle.folder_core.proofs.Sounding.{finished_sound}
@@ -176,6 +177,13 @@ may_finish m sent h none new book c = finished_sound m sent new h (λ g covered 
 -- the same, of what was found for equal values
 pub none_found : (m : Machine) (own consumed : ℕ) (list sent : List Interval) → own ≡ m.book.own → consumed ≡ m.book.consumed → list ≡ sent → None ≡ find (λ i. is_past own consumed i) list → HasNoneAhead m sent
 none_found m own consumed list sent p q r e = has_none m sent (path ∙ sym e)
+  where
+    path : find (λ i. is_past m.book.own m.book.consumed i) sent ≡ find (λ i. is_past own consumed i) list
+    path = λ k. find (λ i. is_past (sym p k) (sym q k) i) (sym r k)
+
+pub none_allowed : (m : Machine) (own consumed : ℕ) (list sent : List Interval) → own ≡ m.book.own → consumed ≡ m.book.consumed → list ≡ sent → None ≡ find (λ i. is_past own consumed i) list
+    → is_none (find (λ i. is_past m.book.own m.book.consumed i) sent) ≡ true
+none_allowed m own consumed list sent p q r e = ap is_none (path ∙ sym e)
   where
     path : find (λ i. is_past m.book.own m.book.consumed i) sent ≡ find (λ i. is_past own consumed i) list
     path = λ k. find (λ i. is_past (sym p k) (sym q k) i) (sym r k)

@@ -1,14 +1,16 @@
 -- An update that isn't refused is fit to be taken.
 use Rattle.std.proofs.Common.{◌≡◌, ◌≢◌, ◌<◌, ◌-◌, ◌^◌, ℕ, Bool, true, false, not, cond, eqb, ◌&&◌, List, [], ◌∷◌, Option, Some, None, refl, sym, ap, ◌∙◌, subst, inl, inr, arith}
-use Rattle.std.specs.Prelude.{find, option_map}
+use Rattle.std.specs.Prelude.{find, if◌then◌else◌, option_map}
+use Rattle.std.specs.Bool.{beq}
 use Rattle.std.proofs.lemmas.Bool.Decides.{nat_tests}
 use Rattle.frs_base.specs.Identifiers.{content_set}
-use Rattle.frs_base.specs.Options.{In, kept_if}
+use Rattle.frs_base.specs.Options.{In, kept_if, none_or}
 use Rattle.frs_base.specs.Versions.{same_uid}
 use Rattle.frs_base.specs.declared.kind.Kind.{Kind}
 use Rattle.frs_base.specs.declared.kind.Kind.TheVariants as kind
 use Rattle.frs_base.specs.declared.version.Uid.{Uid}
 use Rattle.version_vector.specs.Versions.{covers}
+use Rattle.win_order.specs.Order.{is_directory, key_lt, key_of}
 use Rattle.win_order.specs.Refusals.{has_no_version, is_compressed, is_of_root, is_skewed, unfit_of}
 use Rattle.win_order.specs.declared.unfit.Unfit.TheVariants as reason
 use Rattle.win_order.specs.declared.update.Update.{Update}
@@ -19,12 +21,13 @@ use Rattle.vol_state.specs.State.{State, object_of, uid_of}
 use Rattle.vol_state.specs.Valid.{IsVolume}
 use Rattle.vol_state.specs.Maps.{maps_of}
 use Rattle.vol_state.specs.Tables.{IsAt}
+use Rattle.record_db.specs.Steps.{gives_way}
 use Rattle.record_db.proofs.Keys.{same_uid_is, same_uid_refl}
 use Rattle.record_db.proofs.Lists.{find_at}
 use Rattle.name_rules.specs.Recorded.{held_of}
 use Rattle.name_rules.specs.Tree.{kind_of}
 use Rattle.world_model.specs.Folder.{IsFit, IsFound}
-use Rattle.folder_core.specs.declared.refusal.Refusal.TheVariants.{Doubled, KindDiffers, OwnAhead, Unfit as IsUnfit}
+use Rattle.folder_core.specs.declared.refusal.Refusal.TheVariants.{Beaten, Doubled, KindDiffers, OwnAhead, Unfit as IsUnfit}
 use Rattle.folder_core.specs.Machine.{Machine, first_of, is_ahead}
 use Rattle.folder_core.specs.Adopt.{adopt_refusal, beaten, doubled, kind_at, kind_differs, own_ahead, same_kind, unfit}
 use Rattle.folder_core.specs.Sound.{IsInOrder, member_of}
@@ -91,9 +94,10 @@ behind m db version e own = grind (arith, nat_tests)
 -- none of the refusals of an update stands
 pub record IsClear (m : Machine) (u : Update) : Type 0 where
   pub taken : IsTaken m.book.set u
-  pub version : u.gvsn.db ≡ m.book.own → u.gvsn.version < m.book.consumed
-  pub file : u.uid.db ≡ m.book.own → u.uid.version < m.book.consumed
+  pub version_ahead : is_ahead m u.gvsn.db u.gvsn.version ≡ false
+  pub file_ahead : is_ahead m u.uid.db u.uid.version ≡ false
   pub kinds : kind_differs m u ≡ None
+  pub beaten : beaten m u ≡ None
   pub new : covers m.book.vector u.gvsn ≡ false
 
 pub is_clear : (m : Machine) (u : Update) → adopt_refusal m u ≡ None → IsClear m u
@@ -107,9 +111,10 @@ is_clear m u e =
     let file = choice_none (is_ahead m u.uid.db u.uid.version) (OwnAhead u.uid.version) None ahead.1 in
     record {
       taken = taken m.book.set u (map_none IsUnfit (unfit_of u m.book.set) first.0);
-      version = behind m u.gvsn.db u.gvsn.version ahead.0;
-      file = behind m u.uid.db u.uid.version file.0;
+      version_ahead = ahead.0;
+      file_ahead = file.0;
       kinds = third.0;
+      beaten = fourth.0;
       new = (choice_none (covers m.book.vector u.gvsn) (Doubled u.gvsn) None fifth.0).0;
     }
 
@@ -175,8 +180,8 @@ not_root u e set same =
 pub is_fit : (m : Machine) (u : Update) → IsInOrder m → IsClear m u → m.book.set ≡ content_set → IsFit m.book.own (member_of m) m.book.records u
 is_fit m u order clear set = record {
   new = clear.new;
-  version_ahead = clear.version;
-  file_ahead = clear.file;
+  version_ahead = behind m u.gvsn.db u.gvsn.version clear.version_ahead;
+  file_ahead = behind m u.uid.db u.uid.version clear.file_ahead;
   root = not_root u clear.taken.root (clear.taken.set_is ∙ set);
   kinds = λ v a same. kinds_agree m u (kind_of v) clear.kinds (ap (λ held. first_of (option_map kind_of held ∷ option_map (λ o. o.kind) (object_of m.volume u.uid) ∷ [])) (find_at m.book.records u.uid v order.book.rising a same));
   object_kind = λ never fid o at same. kinds_agree m u o.kind clear.kinds
@@ -184,3 +189,36 @@ is_fit m u order clear set = record {
       ∙ ap (λ found. first_of (None ∷ option_map (λ x. x.kind) found ∷ []))
       (object_found m.volume order.volume fid o u.uid at (ap (λ own. uid_of own o) order.own ∙ same)));
 }
+
+-- ---- what gives way
+
+one_kind : (a b : Update) → kind_of a ≡ kind_of b → beq (is_directory a) (is_directory b) ≡ true
+one_kind a b e = by (is_directory a) (is_directory b) e
+  where
+    by : (x y : Bool) → (if x then kind.Directory else kind.File) ≡ (if y then kind.Directory else kind.File) → beq x y ≡ true
+    by true true e = refl
+    by true false e = absurd (cc)
+    by false true e = absurd (cc)
+    by false false e = refl
+
+not_false : (b : Bool) → not b ≡ false → b ≡ true
+not_false true e = refl
+not_false false e = absurd (cc)
+
+-- the record of the file of an update that isn't refused gives way to it
+pub gives_way_to : (m : Machine) (u : Update) → IsClear m u → none_or (gives_way u) (held_of m.book.records u.uid) ≡ true
+gives_way_to m u clear = by (held_of m.book.records u.uid) refl
+  where
+    both : (a b : Bool) → a ≡ true → b ≡ true → (a && b) ≡ true
+    both true true p q = refl
+    both true false p q = absurd (cc)
+    both false b p q = absurd (cc)
+
+    by : (held : Option Update) → held_of m.book.records u.uid ≡ held → none_or (gives_way u) held ≡ true
+    by None e = refl
+    by (Some r) e =
+        let same : kind_of r ≡ kind_of u = kinds_agree m u (kind_of r) clear.kinds (ap (λ found. first_of (option_map kind_of found ∷ option_map (λ o. o.kind) (object_of m.volume u.uid) ∷ [])) e) in
+        let lower : key_lt (key_of r) (key_of u) ≡ true =
+        not_false _ (kept_none (λ held. not (key_lt held (key_of u))) (key_of r)
+        (subst (λ found. kept_if (λ held. not (key_lt held (key_of u))) (option_map key_of found) ≡ None) e (map_none Beaten _ clear.beaten))) in
+        both _ _ (one_kind r u same) lower

@@ -54,7 +54,6 @@ fresh_is_sound kind own set volume book = record {
   };
   bounds = record {
     begun = omega arith;
-    ahead = λ g covered. absurd (cc covered);
     clocks = tt;
   };
   forms = λ uid form e. absurd (none_some form e);
@@ -122,12 +121,12 @@ pub record IsStagedOf (u : Update) (form : Option (List ℕ)) : Type 0 where
   pub local : IsStageable form
 
 -- taking a fit update does
-pub adopted_sound : (m : Machine) (u : Update) (form : Option (List ℕ)) (new : BookState) → IsSound m → u.set ≡ m.book.set → u.clock < 2 ^ 62 → (u.gvsn.db ≡ m.book.own → u.gvsn.version < m.book.consumed)
+pub adopted_sound : (m : Machine) (u : Update) (form : Option (List ℕ)) (new : BookState) → IsSound m → u.set ≡ m.book.set → u.clock < 2 ^ 62
     → (m.book.set ≡ content_set → IsFit m.book.own (member_of m) m.book.records u) → IsStagedOf u form
     → IsBook new → Changes (cmd.Adopt u form) m.book new → IsSound (record m { book = new })
-adopted_sound m u form new h set clock made fit staged book c = record {
+adopted_sound m u form new h set clock fit staged book c = record {
   order = order_after m (cmd.Adopt u form) new h.order h.order.consumed book c;
-  bounds = bounds_adopted m.book new u form h.bounds clock made c;
+  bounds = bounds_adopted m.book new u form h.bounds clock c;
   forms = forms_with m.book new u.uid form c.staged staged.local h.forms;
   sums = h.sums;
   agrees = λ same. agrees_adopted m u form new set (fit (sym c.set ∙ same)) staged.sum c (h.agrees (sym c.set ∙ same));
@@ -138,7 +137,7 @@ pub finished_sound : (m : Machine) (sent : List Interval) (new : BookState) → 
     → IsBook new → Changes (cmd.Finish sent) m.book new → IsSound (record m { book = new })
 finished_sound m sent new h fit book c = record {
   order = order_after m (cmd.Finish sent) new h.order h.order.consumed book c;
-  bounds = bounds_finished m.book new sent h.bounds fit c;
+  bounds = bounds_finished m.book new sent h.bounds c;
   forms = forms_stay m.book new c.staged h.forms;
   sums = h.sums;
   agrees = λ same. agrees_finished m sent new fit c (h.agrees (sym c.set ∙ same));

@@ -26,10 +26,6 @@ IsLeastAhead m sent version = HasAhead m sent version × ((other : ℕ) → HasA
 abbrev pub HasNoneAhead : Machine → List Interval → Type 0
 HasNoneAhead m sent = (version : ℕ) → HasAhead m sent version → ⊥
 
--- an interval of the database reaches past the version
-abbrev pub is_past : ℕ → ℕ → Interval → Bool
-is_past db version i = i.db == db && nat_lt version i.high
-
 -- the record of the update's file has no smaller key
 abbrev pub is_held_or_beaten : List Update → Update → Bool
 is_held_or_beaten records u = some_is (λ r. not (key_lt (key_of r) (key_of u))) (held_of records u.uid)

@@ -39,10 +39,9 @@ member_of m = record {
 abbrev pub Agrees : Machine → Type 0
 Agrees m = FolderIsSound m.book.own (member_of m) m.book.records
 
--- no own version is covered that isn't consumed, and clocks stay below 2^62
+-- versions begin at 9, and clocks stay below 2^62
 pub record IsInBounds (book : BookState) : Type 0 where
   pub begun : 9 ≤ book.consumed
-  pub ahead : (g : Gvsn) → covers book.vector g ≡ true → g.db ≡ book.own → g.version < book.consumed
   pub clocks : AllByRecursion (λ u. u.clock < 2 ^ 62) book.records
 
 -- each form that is staged is one of a local file

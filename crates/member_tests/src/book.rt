@@ -71,8 +71,8 @@ fn numbers_of(alloc: Global, text: &str) -> Result<Vec<u64>, Fail> {
 }
 
 /// The command of a line: `skip USN`, `local MEMBER VERSION BORN CLOCK USN`,
-/// `adopt MEMBER VERSION BORN CLOCK`, `stage MEMBER VERSION BORN CLOCK BYTE`,
-/// `finish MEMBER LOW HIGH` or `unstage BORN`.
+/// `adopt MEMBER VERSION BORN CLOCK`, or `folder` for one of a directory,
+/// `stage MEMBER VERSION BORN CLOCK BYTE`, `finish MEMBER LOW HIGH` or `unstage BORN`.
 fn command(alloc: Global, line: &str) -> Result<BookCmd, Fail> {
     let (word, rest) = line.split_once(' ').ok_or("no word")?;
     let numbers = numbers_of(alloc, rest)?;
@@ -97,6 +97,11 @@ fn command(alloc: Global, line: &str) -> Result<BookCmd, Fail> {
             update: update(alloc, *born, version_of(*member, *version), *clock)?,
             form: None,
         }),
+        [member, version, born, clock] if word == "folder" => {
+            let mut update = update(alloc, *born, version_of(*member, *version), *clock)?;
+            update.attributes = 0x10;
+            Ok(BookCmd::Adopt { update, form: None })
+        }
         _ => Err("no command")?,
     }
 }
@@ -151,13 +156,22 @@ local 1 11 11 100 11 -> 1:9..12 | 9=1:9@100 11=1:11@100 | 12 initial
 local 1 12 9 200 12 -> 1:9..13 | 9=1:12@200 11=1:11@100 | 13 initial
 adopt 2 20 10 300 -> 1:9..13 2:20..21 | 9=1:12@200 10=2:20@300 11=1:11@100 | 13 initial
 adopt 2 22 11 300 -> 1:9..13 2:20..21 2:22..23 | 9=1:12@200 10=2:20@300 11=2:22@300 | 13 initial
-adopt 3 9 11 50 -> 1:9..13 2:20..21 2:22..23 3:9..10 | 9=1:12@200 10=2:20@300 11=3:9@50 | 13 initial
-finish 2 9 23 -> 1:9..13 2:9..23 3:9..10 | 9=1:12@200 10=2:20@300 11=3:9@50 | 13 normal
-local 1 14 9 400 13 -> 1:9..13 2:9..23 3:9..10 | 9=1:12@200 10=2:20@300 11=3:9@50 | 13 normal
-local 2 13 9 400 13 -> 1:9..13 2:9..23 3:9..10 | 9=1:12@200 10=2:20@300 11=3:9@50 | 13 normal
-skip 18446744073709551615 -> 1:9..13 2:9..23 3:9..10 | 9=1:12@200 10=2:20@300 11=3:9@50 | 13 normal
-adopt 2 18446744073709551615 9 400 -> 1:9..13 2:9..23 3:9..10 | 9=1:12@200 10=2:20@300 11=3:9@50 | 13 normal
-adopt 3 18446744073709551614 9 400 -> 1:9..13 2:9..23 3:9..10 3:18446744073709551614..18446744073709551615 | 9=3:18446744073709551614@400 10=2:20@300 11=3:9@50 | 13 normal"
+adopt 3 9 11 50 -> 1:9..13 2:20..21 2:22..23 | 9=1:12@200 10=2:20@300 11=2:22@300 | 13 initial
+adopt 3 9 11 350 -> 1:9..13 2:20..21 2:22..23 3:9..10 | 9=1:12@200 10=2:20@300 11=3:9@350 | 13 initial
+adopt 3 9 12 900 -> 1:9..13 2:20..21 2:22..23 3:9..10 | 9=1:12@200 10=2:20@300 11=3:9@350 | 13 initial
+adopt 1 14 12 900 -> 1:9..13 2:20..21 2:22..23 3:9..10 | 9=1:12@200 10=2:20@300 11=3:9@350 | 13 initial
+adopt 2 30 13 900 -> 1:9..13 2:20..21 2:22..23 3:9..10 | 9=1:12@200 10=2:20@300 11=3:9@350 | 13 initial
+folder 2 30 9 900 -> 1:9..13 2:20..21 2:22..23 3:9..10 | 9=1:12@200 10=2:20@300 11=3:9@350 | 13 initial
+finish 1 9 14 -> 1:9..13 2:20..21 2:22..23 3:9..10 | 9=1:12@200 10=2:20@300 11=3:9@350 | 13 initial
+finish 2 9 23 -> 1:9..13 2:9..23 3:9..10 | 9=1:12@200 10=2:20@300 11=3:9@350 | 13 normal
+local 1 14 9 400 13 -> 1:9..13 2:9..23 3:9..10 | 9=1:12@200 10=2:20@300 11=3:9@350 | 13 normal
+local 2 13 9 400 13 -> 1:9..13 2:9..23 3:9..10 | 9=1:12@200 10=2:20@300 11=3:9@350 | 13 normal
+local 1 12 9 400 12 -> 1:9..13 2:9..23 3:9..10 | 9=1:12@200 10=2:20@300 11=3:9@350 | 13 normal
+skip 12 -> 1:9..13 2:9..23 3:9..10 | 9=1:12@200 10=2:20@300 11=3:9@350 | 13 normal
+skip 14 -> 1:9..13 2:9..23 3:9..10 | 9=1:12@200 10=2:20@300 11=3:9@350 | 13 normal
+skip 18446744073709551615 -> 1:9..13 2:9..23 3:9..10 | 9=1:12@200 10=2:20@300 11=3:9@350 | 13 normal
+adopt 2 18446744073709551615 9 400 -> 1:9..13 2:9..23 3:9..10 | 9=1:12@200 10=2:20@300 11=3:9@350 | 13 normal
+adopt 3 18446744073709551614 9 400 -> 1:9..13 2:9..23 3:9..10 3:18446744073709551614..18446744073709551615 | 9=3:18446744073709551614@400 10=2:20@300 11=3:9@350 | 13 normal"
 }
 
 // What owns a book lends it to one function: each early return past a book that is owned makes a
@@ -260,7 +274,7 @@ fn try_adopting(rt: &impl Abort, alloc: Global, book: &mut Book) -> Result<(), F
 
 #[test]
 fn a_record_is_of_the_book_s_content_set(rt: HostRuntime) -> Result<(), Fail> {
-    let mut book = Book::new(MemberKind::Primary, database_of(1), Guid::of_number(7));
+    let mut book = Book::new(MemberKind::Primary, database_of(4), Guid::of_number(7));
     try_adopting(&rt, rt.alloc(), &mut book)
 }
 
@@ -285,14 +299,19 @@ fn staged_text(alloc: Global, book: &Book) -> Result<String, Fail> {
 
 /// Commands, and what is then staged.
 fn staging_rows() -> &'static str {
-    "stage 2 20 12 300 7 -> | 12=7
+    "skip 9 -> |
+skip 10 -> |
+skip 11 -> |
+skip 12 -> |
+stage 2 20 12 300 7 -> | 12=7
 stage 2 21 10 300 8 -> | 10=8 12=7
 stage 2 22 11 300 9 -> | 10=8 11=9 12=7
+stage 2 23 11 200 4 -> | 10=8 11=9 12=7
 stage 3 9 11 400 6 -> | 10=8 11=6 12=7
 stage 3 18446744073709551615 9 400 5 -> | 10=8 11=6 12=7
 adopt 2 23 12 400 -> | 10=8 11=6
-local 1 9 10 500 9 -> | 11=6
-skip 10 -> | 11=6
+local 1 13 10 500 13 -> | 11=6
+skip 14 -> | 11=6
 unstage 12 -> | 11=6
 finish 2 9 30 -> | 11=6
 unstage 11 -> |"
@@ -338,9 +357,9 @@ fn answer_of(
     Ok((answer, book.vector().intervals().len()))
 }
 
-/// The same in a book of its own.
+/// The same in a book of the fourth member.
 fn answer(alloc: Global, line: &str) -> Result<(Result<(), VectorError>, usize), Fail> {
-    let mut book = book();
+    let mut book = Book::new(MemberKind::Plain, database_of(4), content_set());
     answer_of(alloc, &mut book, line)
 }
 

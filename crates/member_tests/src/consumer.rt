@@ -159,7 +159,9 @@ fn fill_book(
     consumed: u64,
     held: &str,
 ) -> Result<(), Fail> {
-    book.record_local(alloc, consumed.saturating_sub(1), None)?;
+    for usn in 9..consumed {
+        book.record_local(alloc, usn, None)?;
+    }
     if finished {
         book.finish(alloc, &Vector::empty())?;
     }
@@ -300,8 +302,8 @@ put 0 x; over 1 | plain initial 10 | 1 9 1 100 50 live | 101 -> make 1:9 1:10 f 
 put 0 x; over 1 | plain initial 10 | 1 9 1 100 50 live | 102 -> make 1:9 1:10 f live root x 1 102 50
 put 0 x; over 1 | primary initial 10 | 1 9 1 100 50 live | 90 -> make 1:9 1:10 f live root x 2 101 50
 put 0 x; move 1 0 y | plain initial 10 | 1 9 3 100 50 live | 90 -> make 1:9 1:10 f live root y 3 101 50
-put 0 x | plain initial 9 | 1 9 2 100 50 gone | 90 -> make 1:9 1:9 f live root x 2 101 50
-put 0 x | plain initial 9 | 1 20 3 500 400 live | 100 -> make 1:9 1:9 f live root x 1 100 100";
+make 20; place 1 x; over 1 | plain initial 11 | 2 20 2 100 50 gone | 90 -> make 2:20 1:11 f live root x 2 101 50
+put 0 x | plain initial 9 | 2 20 3 500 400 live | 100 -> make 1:9 1:9 f live root x 1 100 100";
 
 /// Removals: of what is held, of what never was, and of what is gone already.
 const REMOVALS: &str =

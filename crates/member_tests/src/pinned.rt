@@ -11,7 +11,7 @@ use win_order::Update;
 
 fn file(born: u64) -> Uid {
     Uid {
-        db: database_of(1),
+        db: database_of(2),
         version: born,
     }
 }

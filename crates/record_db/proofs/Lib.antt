@@ -6,3 +6,4 @@ pub mod Places
 pub mod Forms
 pub mod Kept
 pub mod Standing
+pub mod Widening

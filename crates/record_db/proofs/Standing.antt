@@ -15,7 +15,7 @@ use Rattle.record_db.specs.Records.{Covered, IsBetter, IsHeldOrBeaten, IsRecord,
 use Rattle.record_db.specs.Staged.{staged_with, with_uid}
 use Rattle.record_db.specs.State.{BookState, IsVector, form_of}
 use Rattle.record_db.specs.Standing.{AdoptsOn, AreAlike, AreOneEach, BeginsStanding, FindsRecords, FinishesOn, IsUnused, RecordsOn, StaysStanding, UnstagesOn}
-use Rattle.record_db.specs.Steps.{Changes, has_next, in_set, is_allowed, own_version}
+use Rattle.record_db.specs.Steps.{Changes, in_set, own_version}
 use Rattle.record_db.proofs.Keys.{key_cut, same_gvsn_refl}
 use Rattle.record_db.proofs.Sets.{both_cases, both_old, in_after, in_append, in_before, plus_cases, plus_new, plus_old}
 use Rattle.record_db.proofs.Best.{Grown, beats_all, best_fewer, best_more, best_same, covered_held}
@@ -107,15 +107,8 @@ begins_standing kind own set all = record {
 put_as_it_is : (set : ℕ) (u : Update) (records : List Update) → u.set ≡ set → put_record u records ≡ put_record (in_set set u) records
 put_as_it_is set u records e = ap (λ s. put_record (record u { set = s }) records) e
 
-own_allowed : (old : BookState) (usn : ℕ) (made : Option Update) → has_next usn ≡ true → MatchOption made (Unit {0}) (λ u. u.gvsn ≡ own_version old usn) → is_allowed (RecordLocal usn made) old ≡ true
-own_allowed old usn None next own = ap (λ t. t && true) next
-own_allowed old usn (Some u) next own =
-    let same : same_gvsn u.gvsn (own_version old usn) ≡ true = subst (λ g. same_gvsn g (own_version old usn) ≡ true) (sym own) (same_gvsn_refl (own_version old usn)) in
-    (λ i. next i && same i)
-
 pub records_on : RecordsOn
-records_on all known usn phase forms old new None s next unused fit step =
-    let changed : Changes (RecordLocal usn None) old new = step.done (own_allowed old usn None next tt) in
+records_on all known usn phase forms old new None s unused fit changed =
     let g = own_version old usn in
     record {
       records = subst (Lists (IsRecord (all ++ []) (plus known g))) (sym changed.records)
@@ -131,8 +124,7 @@ records_on all known usn phase forms old new None s next unused fit step =
 
     back : (v : Update) → Covered (all ++ []) (plus known (own_version old usn)) v → Covered all known v
     back = covered_same all known (own_version old usn) unused
-records_on all known usn phase forms old new (Some u) s next unused (own, fit) step =
-    let changed : Changes (RecordLocal usn (Some u)) old new = step.done (own_allowed old usn (Some u) next own) in
+records_on all known usn phase forms old new (Some u) s unused (own, fit) changed =
     let g = own_version old usn in
     let grown : Grown (Covered all known) (Covered (all ++ u ∷ []) (plus known g)) u =
     subst (λ h. Grown (Covered all known) (Covered (all ++ u ∷ []) (plus known h)) u) own (grown_new all known u (λ v h e. unused v h (e ∙ own)) fit.better) in
@@ -146,8 +138,7 @@ records_on all known usn phase forms old new (Some u) s next unused (own, fit) s
     }
 
 pub adopts_on : AdoptsOn
-adopts_on all known consumed phase forms old new u form s one here next fit step =
-    let changed : Changes (Adopt u form) old new = step.done next in
+adopts_on all known consumed phase forms old new u form s one here fit changed =
     record {
       records = subst (Lists (IsRecord all (plus known u.gvsn))) (put_as_it_is old.set u old.records fit.set ∙ sym changed.records)
           (put_lists (Covered all known) (Covered all (plus known u.gvsn)) u old.records (grown_known all known u one here fit.better) s.records);
@@ -158,8 +149,7 @@ adopts_on all known consumed phase forms old new u form s one here next fit step
     }
 
 pub finishes_on : FinishesOn
-finishes_on all known other consumed phase forms old new sent s one theirs held step =
-    let changed : Changes (Finish sent) old new = step.done refl in
+finishes_on all known other consumed phase forms old new sent s one theirs held changed =
     record {
       records = subst (Lists (IsRecord all (both known other))) (sym changed.records)
           (lists_same (IsRecord all known) (IsRecord all (both known other)) old.records
@@ -174,8 +164,7 @@ finishes_on all known other consumed phase forms old new sent s one theirs held 
     wider v c = (c.0, both_old known other v.gvsn c.1)
 
 pub unstages_on : UnstagesOn
-unstages_on all known consumed phase forms old new uid s step =
-    let changed : Changes (Unstage uid) old new = step.done refl in
+unstages_on all known consumed phase forms old new uid s changed =
     record {
       records = subst (Lists (IsRecord all known)) (sym changed.records) s.records;
       vector = record { canonical = changed.vector.canonical; covering = λ g. changed.vector.covering g ∙ s.vector.covering g };

@@ -1,8 +1,8 @@
 -- Records as a list in order of their files.
-use Rattle.std.specs.Prelude.{◌≡◌, true, List, [], ◌∷◌, Option, Some, None, if◌then◌else◌}
+use Rattle.std.specs.Prelude.{◌≡◌, true, false, List, [], ◌∷◌, Option, Some, None, if◌then◌else◌}
 use Rattle.std.specs.List.{AllByRecursion}
 use Rattle.frs_base.specs.Options.{In}
-use Rattle.frs_base.specs.Versions.{same_uid, uid_lt}
+use Rattle.frs_base.specs.Versions.{same_gvsn, same_uid, uid_lt}
 use Rattle.frs_base.specs.declared.version.Uid.{Uid}
 use Rattle.win_order.specs.declared.update.Update.{Update}
 
@@ -14,6 +14,11 @@ IsRisingBy uid_of (x ∷ xs) = AllByRecursion (λ y. uid_lt (uid_of x) (uid_of y
 -- in order of their files, each file once
 abbrev pub IsRising : List Update → Type 0
 IsRising = IsRisingBy (λ u. u.uid)
+
+-- each of a version of its own
+abbrev pub AreDistinct : List Update → Type 0
+AreDistinct [] = Unit {0}
+AreDistinct (u ∷ us) = AllByRecursion (λ v. same_gvsn u.gvsn v.gvsn ≡ false) us × AreDistinct us
 
 -- the list has just these updates, in order of their files
 pub record Lists (These : Update → Type 0) (list : List Update) : Type 0 where

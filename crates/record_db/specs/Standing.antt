@@ -15,7 +15,7 @@ use Rattle.record_db.specs.Lists.{Lists}
 use Rattle.record_db.specs.Records.{Covered, IsBetter, IsHeld, IsHeldOrBeaten, IsRecord, Versions, both, plus}
 use Rattle.record_db.specs.Staged.{with_uid}
 use Rattle.record_db.specs.State.{BookState, IsVector, form_of, fresh_book}
-use Rattle.record_db.specs.Steps.{IsStep, has_next, own_version}
+use Rattle.record_db.specs.Steps.{Changes, own_version}
 
 -- the records are the winners of what is covered among all updates recorded, the vector covers just those versions, the next USN and the phase are these, and what is staged is this
 pub record StandsFor (all : List Update) (known : Versions) (next : ℕ) (now : Phase) (forms : Uid → Option (List ℕ)) (book : BookState) : Type 0 where
@@ -53,10 +53,9 @@ dropped_by (Some u) forms = with_uid forms u.uid None
 abbrev pub RecordsOn : Type 0
 RecordsOn = (all : List Update) (known : Versions) (usn : ℕ) (phase : Phase) (forms : Uid → Option (List ℕ)) (old new : BookState) (made : Option Update)
     → StandsFor all known usn phase forms old
-    → has_next usn ≡ true
     → IsUnused all (own_version old usn)
     → MatchOption made (Unit {0}) (λ u. (u.gvsn ≡ own_version old usn) × IsFit all known old u)
-    → IsStep (RecordLocal usn made) old new
+    → Changes (RecordLocal usn made) old new
     → StandsFor (all ++ option_to_list made) (plus known (own_version old usn)) (usn + 1) phase (dropped_by made forms) new
 
 -- a member adopts an update that was recorded and is better than what it holds, and stages a form of its file, or nothing
@@ -65,9 +64,8 @@ AdoptsOn = (all : List Update) (known : Versions) (consumed : ℕ) (phase : Phas
     → StandsFor all known consumed phase forms old
     → AreOneEach all
     → In u all
-    → has_next u.gvsn.version ≡ true
     → IsFit all known old u
-    → IsStep (Adopt u form) old new
+    → Changes (Adopt u form) old new
     → StandsFor all (plus known u.gvsn) consumed phase (with_uid forms u.uid form) new
 
 -- a member finishes a round over a set of which each winner is held or beaten
@@ -77,14 +75,14 @@ FinishesOn = (all : List Update) (known other : Versions) (consumed : ℕ) (phas
     → AreOneEach all
     → ((g : Gvsn) → covers sent g ≡ other g)
     → ((u : Update) → IsRecord all other u → IsHeldOrBeaten (IsRecord all known) u)
-    → IsStep (Finish sent) old new
+    → Changes (Finish sent) old new
     → StandsFor all (both known other) consumed Normal forms new
 
 -- a member lets go of what is staged of a file
 abbrev pub UnstagesOn : Type 0
 UnstagesOn = (all : List Update) (known : Versions) (consumed : ℕ) (phase : Phase) (forms : Uid → Option (List ℕ)) (old new : BookState) (uid : Uid)
     → StandsFor all known consumed phase forms old
-    → IsStep (Unstage uid) old new
+    → Changes (Unstage uid) old new
     → StandsFor all known consumed phase (with_uid forms uid None) new
 
 -- a book stays standing while others record updates that it doesn't cover

@@ -1,15 +1,17 @@
 -- What each command makes of a book.
-use Rattle.std.specs.Prelude.{◌≡◌, ◌<◌, ◌≤◌, ◌+◌, ◌-◌, ◌^◌, ◌&&◌, nat_lt, ℕ, Bool, true, false, List, length, MatchOption, Option, Some, None, option_map}
+use Rattle.std.specs.Prelude.{◌≡◌, ◌<◌, ◌≤◌, ◌+◌, ◌-◌, ◌^◌, ◌&&◌, ◌==◌, not, nat_le, nat_lt, ℕ, Bool, true, false, List, length, find, is_none, MatchOption, Option, Some, None, option_map}
+use Rattle.std.specs.Bool.{beq}
 use Rattle.frs_base.specs.Options.{none_or}
-use Rattle.frs_base.specs.Versions.{same_gvsn}
+use Rattle.frs_base.specs.Versions.{same_gvsn, same_uid}
 use Rattle.frs_base.specs.declared.kind.Phase.{Phase}
 use Rattle.frs_base.specs.declared.kind.Phase.TheVariants.{Normal}
 use Rattle.frs_base.specs.declared.version.Gvsn.{Gvsn}
 use Rattle.version_vector.specs.Limits.{IsTooLong}
-use Rattle.version_vector.specs.Versions.{covers}
+use Rattle.version_vector.specs.Versions.{IsCanonical, covers}
 use Rattle.version_vector.specs.declared.errors.VectorError.{VectorError}
 use Rattle.version_vector.specs.declared.errors.VectorError.TheVariants.{VectorFull, Memory}
 use Rattle.version_vector.specs.declared.interval.Interval.{Interval}
+use Rattle.win_order.specs.Order.{is_directory, key_lt, key_of}
 use Rattle.win_order.specs.declared.update.Update.{Update}
 use Rattle.record_db.specs.declared.command.BookCmd.{BookCmd}
 use Rattle.record_db.specs.declared.command.BookCmd.TheVariants.{RecordLocal, Adopt, Finish, Unstage}
@@ -17,7 +19,7 @@ use Rattle.record_db.specs.declared.command.Ready.{Ready}
 use Rattle.record_db.specs.Lists.{put_any}
 use Rattle.record_db.specs.Records.{Versions, both, plus}
 use Rattle.record_db.specs.Staged.{staged_after}
-use Rattle.record_db.specs.State.{BookState, IsVector, Seen}
+use Rattle.record_db.specs.State.{BookState, CoversBelow, IsVector, Seen}
 
 -- a version of the book's own database
 abbrev pub own_version : BookState → ℕ → Gvsn
@@ -27,11 +29,40 @@ own_version book usn = record { db = book.own; version = usn }
 abbrev pub has_next : ℕ → Bool
 has_next version = nat_lt version (2 ^ 64 - 1)
 
--- the condition of each command: a local update is of the own version with the USN
+-- a version of the own database that isn't consumed
+abbrev pub is_ahead : BookState → ℕ → ℕ → Bool
+is_ahead book db version = db == book.own && nat_le book.consumed version
+
+-- an interval of the database reaches past the version
+abbrev pub is_past : ℕ → ℕ → Interval → Bool
+is_past db version i = i.db == db && nat_lt version i.high
+
+-- an update takes the place of a record of its kind that has a smaller key
+abbrev pub gives_way : Update → Update → Bool
+gives_way u held = beq (is_directory held) (is_directory u) && key_lt (key_of held) (key_of u)
+
+-- a local update is of the own version with the USN that is consumed next
+abbrev pub may_record : ℕ → Option Update → BookState → Bool
+may_record usn update book = usn == book.consumed && (has_next usn && none_or (λ u. same_gvsn u.gvsn (own_version book usn)) update)
+
+-- a partner's update: neither its version nor its file is an own one that isn't consumed, its version is new, and the record of its file gives way
+abbrev pub may_adopt : Update → BookState → Bool
+may_adopt u book =
+    has_next u.gvsn.version
+    && (not (is_ahead book u.gvsn.db u.gvsn.version)
+    && (not (is_ahead book u.uid.db u.uid.version)
+    && (not (covers book.vector u.gvsn)
+    && none_or (gives_way u) (find (λ r. same_uid r.uid u.uid) book.records))))
+
+-- a round: its vector covers no own version that isn't consumed
+abbrev pub may_finish : List Interval → BookState → Bool
+may_finish sent book = is_none (find (is_past book.own book.consumed) sent)
+
+-- the condition of each command
 abbrev pub is_allowed : BookCmd → BookState → Bool
-is_allowed (RecordLocal usn update) book = has_next usn && none_or (λ u. same_gvsn u.gvsn (own_version book usn)) update
-is_allowed (Adopt update form) book = has_next update.gvsn.version
-is_allowed (Finish sent) book = true
+is_allowed (RecordLocal usn update) book = may_record usn update book
+is_allowed (Adopt update form) book = may_adopt update book
+is_allowed (Finish sent) book = may_finish sent book
 is_allowed (Unstage uid) book = true
 
 -- the update that a command puts among the records
@@ -86,9 +117,17 @@ pub record IsStep (cmd : BookCmd) (old new : BookState) : Type 0 where
 abbrev pub CoversMore : List Interval → List Interval → Type 0
 CoversMore less more = (g : Gvsn) → covers less g ≡ true → covers more g ≡ true
 
--- the list covers the version of the update, if there is one
-abbrev pub CoversAny : List Interval → Option Update → Type 0
-CoversAny vector update = MatchOption update (Unit {0}) (λ u. covers vector u.gvsn ≡ true)
+-- the version of the update, if there is one, is covered now and wasn't before
+abbrev pub CoversNew : List Interval → List Interval → Option Update → Type 0
+CoversNew less more update = MatchOption update (Unit {0}) (λ u. (covers more u.gvsn ≡ true) × (covers less u.gvsn ≡ false))
+
+-- a book may have this wider vector and this update, once it has consumed so far
+pub record Widens (book : BookState) (vector : List Interval) (next : ℕ) (update : Option Update) : Type 0 where
+  pub canonical : IsCanonical vector
+  pub within : length vector ≤ 65536
+  pub wider : CoversMore book.vector vector
+  pub new : CoversNew book.vector vector update
+  pub made : CoversBelow book.own next vector
 
 -- the command may be taken without memory: there is room for a record and for a form, and the vector is made
 pub record Fits (ready : Ready) (book : Seen) : Type 0 where

@@ -8,6 +8,7 @@
 mod book;
 mod command;
 mod laws;
+mod past;
 mod records;
 mod staged;
 
@@ -17,5 +18,6 @@ pub use laws::{
     adopting_books_stand, books_find_winners, books_of_one_set_are_alike, finishing_books_stand,
     fresh_books_stand, recording_books_stand, standing_books_stay, unstaging_books_stand,
 };
+pub use past::first_past;
 pub use records::find_record;
 pub use staged::Staged;

@@ -268,7 +268,7 @@ fn fill(alloc: Global, book: &mut Book) -> Result<(), Fail> {
 
 /// A book with no records.
 fn book() -> Book {
-    Book::new(MemberKind::Plain, database_of(2), content_set())
+    Book::new(MemberKind::Plain, database_of(3), content_set())
 }
 
 /// The first two members, `a` and `b`.

@@ -1,11 +1,12 @@
 // Finishing a round.
-ghost use Rattle.std.specs.Prelude.{◌≡◌, ◌↔◌, IfOk, IsTrue, MatchOption, OnErr, find, not, option_copied};
+ghost use Rattle.std.specs.Prelude.{◌≡◌, ◌↔◌, IfOk, IsTrue, MatchOption, IfNone, OnErr, not, option_copied, true};
 ghost use Rattle.frs_base.specs.Options.{some_is};
 ghost use Rattle.win_order.specs.Order.{key_lt, key_of};
+ghost use Rattle.record_db.specs.Steps.{is_allowed};
 ghost use Rattle.record_db.specs.declared.command.BookCmd.TheVariants.{Finish};
 ghost use Rattle.folder_core.specs.declared.reply.Reply.TheVariants.{Finished};
 ghost use Rattle.folder_core.specs.Books.{Takes};
-ghost use Rattle.folder_core.specs.Finish.{AnswersFinish, HasNoneAhead, IsLeastAhead, first_unheld, is_held_or_beaten, is_past};
+ghost use Rattle.folder_core.specs.Finish.{AnswersFinish, HasNoneAhead, IsLeastAhead, first_unheld, is_held_or_beaten};
 ghost use Rattle.folder_core.specs.Given.{IsNoted, StaysSound};
 ghost use Rattle.folder_core.specs.Sound.{IsSound};
 
@@ -13,20 +14,10 @@ use super::Machine;
 use super::adopt::is_below;
 use crate::answer::Answer;
 use crate::{Mark, Refusal, Reply};
-use frs_base::Guid;
-use record_db::BookCmd;
+use record_db::{BookCmd, first_past};
 use std::alloc::{AllocError, Global};
-use version_vector::{Interval, Vector, VectorError};
+use version_vector::{Vector, VectorError};
 use win_order::Update;
-
-/// The first interval of a database that reaches past a version.
-fn first_past(intervals: &[Interval], db: Guid, version: u64) -> Option<&Interval>
-    ensures { option_copied result ≡ find (λ i. is_past db version i) intervals.now }
-{
-    intervals
-        .iter()
-        .find(|interval| interval.db == db && version < interval.high)
-}
 
 /// The held record has no smaller key.
 fn stands_by(held: Option<&Update>, update: &Update) -> bool
@@ -49,6 +40,7 @@ impl Machine {
     /// The least own version of a vector that isn't consumed.
     fn least_ahead(&self, sent: &Vector) -> Option<u64>
         ensures least { MatchOption result (HasNoneAhead self.now sent.now) (λ version. IsLeastAhead self.now sent.now version) }
+        ensures allowed { IfNone result (is_allowed (Finish sent.now) self.now.book ≡ true) }
         ensures sound { IsSound self.now }
     {
         let consumed = self.book.consumed();
@@ -74,7 +66,8 @@ impl Machine {
 
     /// All of the vector is covered.
     fn cover(&mut self, alloc: Global, sent: Vector) -> Result<Answer, AllocError>
-        requires { StaysSound (Finish sent) self.old }
+        requires allowed { is_allowed (Finish sent) self.old.book ≡ true }
+        requires sound { StaysSound (Finish sent) self.old }
         ensures answers { IfOk result (λ answer. Takes (Finish sent) Finished self.old answer.reply self.new) }
         ensures noted { IfOk result (λ answer. IsNoted answer self.old self.new) }
         ensures err { OnErr result (self.new ≡ self.old) }

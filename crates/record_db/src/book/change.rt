@@ -1,21 +1,32 @@
 // The steps of commands.
-ghost use Rattle.std.specs.Prelude.{◌≡◌, ◌<◌, ◌≤◌, true, IfErr, IfOk, OnErr, OnOk, length, option_map};
+ghost use Rattle.std.specs.Prelude.{◌≡◌, ◌<◌, ◌≤◌, true, IfErr, IfOk, OnErr, OnOk, length, option_copied, option_map};
 ghost use Rattle.frs_base.specs.Options.{none_or};
 ghost use Rattle.frs_base.specs.Versions.{same_gvsn};
-ghost use Rattle.version_vector.specs.Versions.{IsCanonical};
 ghost use Rattle.record_db.specs.Lists.{put_any};
 ghost use Rattle.record_db.specs.Staged.{staged_by};
 ghost use Rattle.record_db.specs.State.{IsVector};
-ghost use Rattle.record_db.specs.Steps.{Changes, CoversAny, CoversMore, Fits, IsFull, IsStep, covered_after, in_set, is_allowed, own_version};
+ghost use Rattle.record_db.specs.Steps.{Changes, Fits, IsFull, IsStep, Widens, covered_after, gives_way, in_set, is_ahead, is_allowed, may_adopt, may_finish, may_record, own_version};
 ghost use Rattle.record_db.specs.declared.command.BookCmd.TheVariants.{RecordLocal, Adopt, Finish, Unstage};
 
 use crate::records::put_record;
 use crate::staged::{drop_form, put_form};
-use crate::{Book, BookCmd, Ready};
-use frs_base::{Bytes, Gvsn, Phase, Uid};
+use crate::{Book, BookCmd, Ready, first_past};
+use frs_base::{Bytes, Guid, Gvsn, Phase, Uid};
 use std::alloc::Global;
 use version_vector::{Vector, VectorError};
 use win_order::Update;
+
+/// The record of a file, if there is one, gives way to an update.
+fn gives_way(held: Option<&Update>, update: &Update) -> bool
+    ensures { result ≡ none_or (gives_way update.now) (option_copied held.entry) }
+{
+    match held {
+        None => true,
+        Some(record) => {
+            record.is_directory() == update.is_directory() && record.key() < update.key()
+        }
+    }
+}
 
 impl Book {
     /// The version that the member makes of the journal record with this USN.
@@ -38,14 +49,47 @@ impl Book {
         }
     }
 
+    /// A version of the own database that isn't consumed.
+    fn is_ahead(&self, db: Guid, version: u64) -> bool
+        ensures { result ≡ is_ahead self.now.state db version }
+    {
+        db == self.own && self.consumed <= version
+    }
+
+    /// The journal record with this USN is the next to be consumed, and may make this update.
+    fn may_record(&self, usn: u64, update: &Option<Update>) -> bool
+        ensures { result ≡ may_record usn update.now self.now.state }
+    {
+        usn == self.consumed && usn < u64::MAX && self.is_own(usn, update)
+    }
+
+    /// A partner's update may be taken.
+    fn may_adopt(&self, update: &Update) -> bool
+        ensures { result ≡ may_adopt update.now self.now.state }
+    {
+        update.gvsn.version < u64::MAX
+            && !self.is_ahead(update.gvsn.db, update.gvsn.version)
+            && !self.is_ahead(update.uid.db, update.uid.version)
+            && !self.vector.covers(update.gvsn)
+            && gives_way(self.held(update.uid), update)
+    }
+
+    /// A round over this vector may be finished.
+    fn may_finish(&self, sent: &Vector) -> bool
+        ensures { result ≡ may_finish sent.now self.now.state }
+    {
+        first_past(sent.intervals(), self.own, self.consumed).is_none()
+    }
+
     /// The condition of a command.
     fn is_allowed(&self, cmd: &BookCmd) -> bool
         ensures { result ≡ is_allowed cmd.now self.now.state }
     {
         match cmd {
-            BookCmd::RecordLocal { usn, update } => { *usn < u64::MAX && self.is_own(*usn, update) }
-            BookCmd::Adopt { update, form: _ } => update.gvsn.version < u64::MAX,
-            BookCmd::Finish { sent: _ } | BookCmd::Unstage { uid: _ } => true,
+            BookCmd::RecordLocal { usn, update } => self.may_record(*usn, update),
+            BookCmd::Adopt { update, form: _ } => self.may_adopt(update),
+            BookCmd::Finish { sent } => self.may_finish(sent),
+            BookCmd::Unstage { uid: _ } => true,
         }
     }
 
@@ -66,24 +110,64 @@ impl Book {
         Ok(vector)
     }
 
-    /// Takes a vector that covers more, and puts an update that it covers, of whose file this form,
-    /// or nothing, is staged then.
-    fn cover(&mut self, vector: Vector, update: Option<Update>, form: Option<Bytes>)
+    /// Takes a vector that covers more, with how far the journal is consumed, and puts an update
+    /// that it newly covers, of whose file this form, or nothing, is staged then.
+    fn cover(&mut self, vector: Vector, next: u64, update: Option<Update>, form: Option<Bytes>)
         requires room { 0 < self.old.room }
         requires staged_room { 0 < self.old.staged_room }
-        requires canonical { IsCanonical vector }
-        requires within { length vector ≤ 65_536 }
-        requires wider { CoversMore self.old.state.vector vector }
-        requires covered { CoversAny vector update }
-        ensures { self.new.state ≡ record self.old.state { records = put_any (option_map (in_set self.old.state.set) update) self.old.state.records; vector = vector; staged = staged_by update form self.old.state.staged } }
+        requires widens { Widens self.old.state vector next update }
+        ensures { self.new.state ≡ record self.old.state { records = put_any (option_map (in_set self.old.state.set) update) self.old.state.records; vector = vector; consumed = next; staged = staged_by update form self.old.state.staged } }
     {
         self.vector = vector;
+        self.consumed = next;
         if let Some(update) = update {
             let mut update = update;
             update.set = self.set;
             put_form(&mut self.staged, update.uid, form);
             put_record(&mut self.records, update);
         }
+    }
+
+    /// Consumes the next journal record.
+    fn change_by_record(&mut self, usn: u64, vector: Vector, update: Option<Update>)
+        requires allowed { is_allowed (RecordLocal usn update) self.old.state ≡ true }
+        requires room { 0 < self.old.room }
+        requires staged_room { 0 < self.old.staged_room }
+        requires vector { IsVector (covered_after (RecordLocal usn update) self.old.state) vector }
+        requires within { length vector ≤ 65_536 }
+        ensures { Changes (RecordLocal usn update) self.old.state self.new.state }
+    {
+        let _ = self.vector();
+        self.cover(vector, usn + 1, update, None);
+    }
+
+    /// Puts a partner's update.
+    fn change_by_update(&mut self, vector: Vector, update: Update, form: Option<Bytes>)
+        requires allowed { is_allowed (Adopt update form) self.old.state ≡ true }
+        requires room { 0 < self.old.room }
+        requires staged_room { 0 < self.old.staged_room }
+        requires vector { IsVector (covered_after (Adopt update form) self.old.state) vector }
+        requires within { length vector ≤ 65_536 }
+        ensures { Changes (Adopt update form) self.old.state self.new.state }
+    {
+        let _ = self.vector();
+        let next = self.consumed;
+        self.cover(vector, next, Some(update), form);
+    }
+
+    /// Covers all that a partner sent.
+    fn change_by_round(&mut self, vector: Vector, sent: Vector)
+        requires allowed { is_allowed (Finish sent) self.old.state ≡ true }
+        requires room { 0 < self.old.room }
+        requires staged_room { 0 < self.old.staged_room }
+        requires vector { IsVector (covered_after (Finish sent) self.old.state) vector }
+        requires within { length vector ≤ 65_536 }
+        ensures { Changes (Finish sent) self.old.state self.new.state }
+    {
+        let _ = self.vector();
+        let next = self.consumed;
+        self.cover(vector, next, None, None);
+        self.phase = Phase::Normal;
     }
 
     /// Does a command whose condition holds.
@@ -96,15 +180,9 @@ impl Book {
         ensures { Changes cmd self.old.state self.new.state }
     {
         match cmd {
-            BookCmd::RecordLocal { usn, update } => {
-                self.cover(vector, update, None);
-                self.consumed = usn + 1;
-            }
-            BookCmd::Adopt { update, form } => self.cover(vector, Some(update), form),
-            BookCmd::Finish { sent: _ } => {
-                self.cover(vector, None, None);
-                self.phase = Phase::Normal;
-            }
+            BookCmd::RecordLocal { usn, update } => self.change_by_record(usn, vector, update),
+            BookCmd::Adopt { update, form } => self.change_by_update(vector, update, form),
+            BookCmd::Finish { sent } => self.change_by_round(vector, sent),
             BookCmd::Unstage { uid } => self.unstage(uid),
         }
     }

@@ -1,17 +1,16 @@
 use Rattle.std.proofs.Common.{ap, subst, sym, None, Some}
-use Rattle.record_db.specs.Steps.{CoversAny, CoversMore}
+use Rattle.record_db.specs.Steps.{Widens}
 use Rattle.record_db.proofs.Kept.{kept}
 use Rattle.record_db.proofs.book.Book.cover.Goals as goal
 
 pub invariant_of-self : goal.invariant_of-self
 invariant_of-self c =
     let is = ap (λ seen. seen.state) c.self.view_is in
-    let wider = subst (λ b. CoversMore b.vector c.args.vector) (sym is) c.requires.wider in
-    let any = subst (CoversAny c.args.vector) c.in-Some.is c.requires.covered in
-    rw (c.put_record.ensures, c.put_form.ensures) (kept _ c.args.vector (Some c.in-Some.update) c.args.form c.self.invariant c.requires.canonical c.requires.within wider any)
+    let widens = subst (λ b. Widens b c.args.vector c.args.next (Some c.in-Some.update)) (sym is) (subst (Widens _ c.args.vector c.args.next) c.in-Some.is c.requires.widens) in
+    rw (c.put_record.ensures, c.put_form.ensures) (kept _ c.args.vector c.args.next (Some c.in-Some.update) c.args.form c.self.invariant widens)
 
 pub invariant_of-self-in_default : goal.invariant_of-self-in_default
 invariant_of-self-in_default c =
     let is = ap (λ seen. seen.state) c.self.view_is in
-    let wider = subst (λ b. CoversMore b.vector c.args.vector) (sym is) c.requires.wider in
-    kept _ c.args.vector None c.args.form c.self.invariant c.requires.canonical c.requires.within wider tt
+    let widens = subst (λ b. Widens b c.args.vector c.args.next None) (sym is) (subst (Widens _ c.args.vector c.args.next) c.in_default.is c.requires.widens) in
+    kept _ c.args.vector c.args.next None c.args.form c.self.invariant widens
