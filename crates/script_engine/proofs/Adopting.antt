@@ -23,7 +23,6 @@ use Rattle.vol_state.proofs.Finding.{in_at}
 use Rattle.record_db.specs.declared.command.BookCmd.TheVariants as cmd
 use Rattle.record_db.specs.Records.{Covered, plus}
 use Rattle.record_db.specs.Staged.{with_uid}
-use Rattle.record_db.specs.Steps.{IsStep, has_next}
 use Rattle.record_db.proofs.Best.{one_held}
 use Rattle.record_db.proofs.Keys.{same_uid_is}
 use Rattle.record_db.proofs.Lists.{find_in, found_held}
@@ -232,10 +231,7 @@ adopted_stands : (w : World) (d : ℕ) (u : Update) (given : Option (List ℕ)) 
     → Changed (cmd.Adopt u given) m new → MachineStands w.all (adopted_by u (w.at d)) d new
 adopted_stands w d u given m new sound s keeps ours wanted staged changed =
     let x = w.at d in
-    let low = ours.low in
-    let next : has_next u.gvsn.version ≡ true = grind (arith, nat_tests) in
-    let step : IsStep (cmd.Adopt u given) m.book new.book = record { done = λ e. changed.book; passed = λ no. absurd (cc) } in
-    let on = adopts_on w.all x.known x.consumed x.phase s.forms m.book new.book u given s.book sound.invariant.versions.one_each ours.here next (record { set = ours.set ∙ sym s.set; better = wanted }) step in
+    let on = adopts_on w.all x.known x.consumed x.phase s.forms m.book new.book u given s.book sound.invariant.versions.one_each ours.here (record { set = ours.set ∙ sym s.set; better = wanted }) changed.book in
     record {
       sound = keeps;
       own = changed.book.own ∙ s.own;

@@ -17,7 +17,7 @@ use Rattle.record_db.specs.declared.command.BookCmd.TheVariants.{RecordLocal}
 use Rattle.record_db.specs.Records.{Covered, IsHeld, plus}
 use Rattle.record_db.specs.Standing.{dropped_by, IsFit, IsUnused, StandsFor}
 use Rattle.record_db.specs.State.{BookState}
-use Rattle.record_db.specs.Steps.{Changes, IsStep, has_next, is_allowed, own_version}
+use Rattle.record_db.specs.Steps.{Changes, own_version}
 use Rattle.record_db.proofs.Keys.{same_gvsn_refl}
 use Rattle.record_db.proofs.Lists.{found_held}
 use Rattle.record_db.proofs.Sets.{in_after, in_append}
@@ -133,15 +133,6 @@ made_fresh w d moment (Some x) sound r j u (inl e) = by ((w.at j).known u.gvsn) 
 
 -- ---- the book
 
-allowed : (old : BookState) (usn : ℕ) (made : Option Update) → has_next usn ≡ true → MatchOption made (Unit {0}) (λ u. u.gvsn ≡ own_version old usn) → is_allowed (RecordLocal usn made) old ≡ true
-allowed old usn None next own = ap (λ t. t && true) next
-allowed old usn (Some u) next own =
-    let same : same_gvsn u.gvsn (own_version old usn) ≡ true = subst (λ g. same_gvsn g (own_version old usn) ≡ true) (sym own) (same_gvsn_refl (own_version old usn)) in
-    (λ i. next i && same i)
-
-step_of : (old new : BookState) (usn : ℕ) (made : Option Update) → is_allowed (RecordLocal usn made) old ≡ true → Changes (RecordLocal usn made) old new → IsStep (RecordLocal usn made) old new
-step_of old new usn made may changes = record { done = λ e. changes; passed = λ no. absurd (cc) }
-
 -- the update is of the book's set and better than what it holds
 abbrev IsRecorded : World → ℕ → BookState → Option Update → Type 0
 IsRecorded w d book made = MatchOption made (Unit {0}) (λ u. (u.gvsn ≡ own_version book (w.at d).consumed) × IsFit w.all (w.at d).known book u)
@@ -166,19 +157,14 @@ unused w d own sound e u here is =
     let bad : IsConsumed w (record { db = d; version = (w.at d).consumed }) = subst (IsConsumed w) (is ∙ (λ i. record { db = e i; version = (w.at d).consumed })) c in
     let low = bad.1 in omega (arith, low)
 
-weaker : (w : World) (d : ℕ) (book : BookState) (made : Option Update) → IsRecorded w d book made → MatchOption made (Unit {0}) (λ u. u.gvsn ≡ own_version book (w.at d).consumed)
-weaker w d book None f = tt
-weaker w d book (Some u) f = f.0
-
 -- the machine of a member that consumed a record
 consumed_stands : (w : World) (d moment : ℕ) (m new : Machine) (made : Option Update) → IsSoundWorld w → AreOurs w.all → MachineStands w.all (w.at d) d m → IsSoundMachine new → Records w d moment made
-    → has_next (w.at d).consumed ≡ true → Changed (RecordLocal m.book.consumed made) m new → MachineStands (w.all ++ option_to_list made) (consumed_by d made (w.at d)) d new
-consumed_stands w d moment m new made sound ours s keeps records next changed =
+    → Changed (RecordLocal m.book.consumed made) m new → MachineStands (w.all ++ option_to_list made) (consumed_by d made (w.at d)) d new
+consumed_stands w d moment m new made sound ours s keeps records changed =
     let x = w.at d in
     let fit = recorded_fit w d moment m made sound ours s records in
     let changes : Changes (RecordLocal x.consumed made) m.book new.book = subst (λ n. Changes (RecordLocal n made) m.book new.book) s.book.consumed changed.book in
-    let step = step_of m.book new.book x.consumed made (allowed m.book x.consumed made next (weaker w d m.book made fit)) changes in
-    let on = records_on w.all x.known x.consumed x.phase s.forms m.book new.book made s.book next (unused w d m.book.own sound s.own) fit step in
+    let on = records_on w.all x.known x.consumed x.phase s.forms m.book new.book made s.book (unused w d m.book.own sound s.own) fit changes in
     record {
       sound = keeps;
       own = changed.book.own ∙ s.own;
@@ -191,10 +177,10 @@ consumed_stands w d moment m new made sound ours s keeps records next changed =
     }
 
 goes_by : (w : World) (d moment : ℕ) (m new : Machine) (made : Option Update) → moment < 2 ^ 61 → IsSoundWorld w → AreOurs w.all → MachineStands w.all (w.at d) d m → IsSoundMachine new → Records w d moment made
-    → has_next (w.at d).consumed ≡ true → Changed (RecordLocal m.book.consumed made) m new → Goes w d m new (consumes w d made)
-goes_by w d moment m new made early sound ours s keeps records next changed = record {
+    → Changed (RecordLocal m.book.consumed made) m new → Goes w d m new (consumes w d made)
+goes_by w d moment m new made early sound ours s keeps records changed = record {
   passes = passes;
-  stands = subst (λ x. MachineStands (w.all ++ option_to_list made) x d new) (sym (at_same w.at d (consumed_by d made (w.at d)))) (consumed_stands w d moment m new made sound ours s keeps records next changed);
+  stands = subst (λ x. MachineStands (w.all ++ option_to_list made) x d new) (sym (at_same w.at d (consumed_by d made (w.at d)))) (consumed_stands w d moment m new made sound ours s keeps records changed);
   beside = λ j x n stands. subst (λ y. MachineStands (w.all ++ option_to_list made) y j x) (passes.others j n)
       (machine_beside w.all (option_to_list made) (w.at j) j x (made_fresh w d moment made sound records j) stands);
   ours = all_ours w d moment made records;
@@ -227,7 +213,7 @@ book_takes w d moment m reply new made (early, few, low) sound ours s keeps reco
   records = records;
   fits = fits_by _ (widened w d) new.book.vector (widths w d m s) changed.book.vector changed.within;
   reply_is = said;
-  goes = goes_by w d moment m new made early sound ours s keeps records (grind (arith, nat_tests)) changed;
+  goes = goes_by w d moment m new made early sound ours s keeps records changed;
   usns = ap (λ (v : State). v.next_usn) changed.volume;
 })
 book_takes w d moment m reply new made (early, few, low) sound ours s keeps records (inr (count, (full, (said, same)))) = inr (record {

@@ -10,7 +10,7 @@ use Rattle.vol_state.specs.Maps.{Stands}
 use Rattle.vol_state.specs.State.{State}
 use Rattle.record_db.specs.declared.command.BookCmd.TheVariants as cmd
 use Rattle.record_db.specs.Records.{IsHeldOrBeaten, Versions, both}
-use Rattle.record_db.specs.Steps.{IsStep, own_version}
+use Rattle.record_db.specs.Steps.{own_version}
 use Rattle.record_db.proofs.Lists.{find_at}
 use Rattle.record_db.proofs.Sets.{one_set}
 use Rattle.record_db.proofs.Standing.{finishes_on}
@@ -79,7 +79,6 @@ finished_stands : (w : World) (d : ℕ) (s : Versions) (sent : List Interval) (s
     → Changed (cmd.Finish sent) m new → MachineStands w.all (finished_by s (w.at d)) d new
 finished_stands w d s sent seen m new sound stands keeps may changed =
     let x = w.at d in
-    let step : IsStep (cmd.Finish sent) m.book new.book = record { done = λ e. changed.book; passed = λ no. absurd (cc) } in
     record {
       sound = keeps;
       own = changed.book.own ∙ stands.own;
@@ -87,7 +86,7 @@ finished_stands w d s sent seen m new sound stands keeps may changed =
       kind = changed.book.kind ∙ stands.kind;
       forms = stands.forms;
       staged = stands.staged;
-      book = finishes_on w.all x.known s x.consumed x.phase stands.forms m.book new.book sent stands.book sound.invariant.versions.one_each may.vector.covering may.held step;
+      book = finishes_on w.all x.known s x.consumed x.phase stands.forms m.book new.book sent stands.book sound.invariant.versions.one_each may.vector.covering may.held changed.book;
       volume = subst (λ v. Stands v x.volume) (sym changed.volume) stands.volume;
     }
 
