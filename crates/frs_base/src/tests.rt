@@ -59,35 +59,43 @@ fn guids_are_ordered_by_their_values(rt: HostRuntime) {
     );
 }
 
+// What owns a value lends it to one function: each early return past one that is owned makes a
+// proof longer.
+
+/// The units of a name that is made of these, or why there is none.
+fn try_units(alloc: Global, units: &[u16]) -> Result<bool, NameError> {
+    Ok(Name::from_units(alloc, units)?.units() == units)
+}
+
+/// A name that is made of so many units in both ways: whether it has them.
+fn try_length(alloc: Global, count: usize) -> Result<Result<bool, NameError>, Fail> {
+    let units = vec![in alloc; 0x78; count]?;
+    Ok(try_units(alloc, &units))
+}
+
+/// A name that takes a vector of so many units `x`: how many of them it has.
+fn try_taking(alloc: Global, count: usize) -> Result<Result<usize, NameError>, Fail> {
+    let units = vec![in alloc; 0x78; count]?;
+    Ok(Name::from_vec(units).map(|name| name.units().iter().filter(|unit| **unit == 0x78).count()))
+}
+
 #[test]
 fn names_of_units(rt: HostRuntime) -> Result<(), Fail> {
     let alloc = rt.alloc();
-    let most = vec![in alloc; 0x78; 255]?;
-    let name = Name::from_units(alloc, &most)?;
-    assert_eq!(rt; name.units(), most.as_slice());
-    let taken = vec![in alloc; 0x78; 255]?;
-    assert!(rt; Name::from_vec(taken)? == name);
-    let more = vec![in alloc; 0x78; 256]?;
-    assert_eq!(rt;
-        Name::from_units(alloc, &more),
-        Err(NameError::NameBad { at: 256 })
-    );
-    assert_eq!(rt; Name::from_vec(more), Err(NameError::NameBad { at: 256 }));
-    assert_eq!(rt;
-        Name::from_units(alloc, &[]),
-        Err(NameError::NameBad { at: 0 })
-    );
-    let rows: [(&[u16], usize); 4] = [
+    let bad = |at| NameError::NameBad { at };
+    assert_eq!(rt; try_length(alloc, 255)?, Ok(true));
+    assert_eq!(rt; try_length(alloc, 256)?, Err(bad(256)));
+    assert_eq!(rt; try_taking(alloc, 255)?, Ok(255));
+    assert_eq!(rt; try_taking(alloc, 256)?, Err(bad(256)));
+    let rows: [(&[u16], usize); 5] = [
+        (&[], 0),
         (&[0x2f], 0),
         (&[0x61, 0], 1),
         (&[0x61, 0x5c, 0x2f], 1),
         (&[0x61, 0x62, 0x2f, 0], 2),
     ];
     for (units, at) in rows {
-        assert_eq!(rt;
-            Name::from_units(alloc, units),
-            Err(NameError::NameBad { at })
-        );
+        assert_eq!(rt; try_units(alloc, units), Err(bad(at)));
     }
     Ok(())
 }
@@ -143,10 +151,7 @@ fn wrapped_vectors_come_back(rt: HostRuntime) -> Result<(), Fail> {
     Ok(())
 }
 
-#[test]
-fn reserved_values_stay_in_order(rt: HostRuntime) -> Result<(), Fail> {
-    let alloc = rt.alloc();
-    let mut values = ReservedVec::empty();
+fn try_values(rt: &impl Abort, alloc: Global, values: &mut ReservedVec<u8>) -> Result<(), Fail> {
     values.reserve_one(alloc)?;
     values.push(7);
     values.reserve_one(alloc)?;
@@ -163,12 +168,20 @@ fn reserved_values_stay_in_order(rt: HostRuntime) -> Result<(), Fail> {
 }
 
 #[test]
-fn a_machine_is_brought_back_by_its_commands(rt: HostRuntime) -> Result<(), Fail> {
-    let alloc = rt.alloc();
-    codes_have_one_command::<Tape>();
-    let mut tape = Tape {
-        bytes: ReservedVec::empty(),
-    };
+fn reserved_values_stay_in_order(rt: HostRuntime) -> Result<(), Fail> {
+    let mut values = ReservedVec::empty();
+    try_values(&rt, rt.alloc(), &mut values)
+}
+
+#[test]
+fn reserved_values_are_those_of_a_vector(rt: HostRuntime) -> Result<(), Fail> {
+    let mut values = ReservedVec::of(vec![in rt.alloc(); 1, 2, 3, 4, 5]?);
+    values.remove_range(1, 3);
+    assert_eq!(rt; values.as_slice(), [1, 4, 5].as_slice());
+    Ok(())
+}
+
+fn try_tape(rt: &impl Abort, alloc: Global, tape: &mut Tape) -> Result<(), Fail> {
     for byte in [7, 0xff] {
         let code = Tape::encode(alloc, &byte)?;
         assert_eq!(rt; Tape::decode(alloc, &code)?, Some(byte));
@@ -178,4 +191,13 @@ fn a_machine_is_brought_back_by_its_commands(rt: HostRuntime) -> Result<(), Fail
     assert_eq!(rt; Tape::decode(alloc, &[1, 7])?, None);
     assert_eq!(rt; tape.save(alloc)?.as_slice(), [7, 0xff].as_slice());
     Ok(())
+}
+
+#[test]
+fn a_machine_is_brought_back_by_its_commands(rt: HostRuntime) -> Result<(), Fail> {
+    codes_have_one_command::<Tape>();
+    let mut tape = Tape {
+        bytes: ReservedVec::empty(),
+    };
+    try_tape(&rt, rt.alloc(), &mut tape)
 }

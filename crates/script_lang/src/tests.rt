@@ -252,7 +252,12 @@ fn files_are_read_and_printed(rt: HostRuntime) -> Result<(), Fail> {
     expect_row(&rt, alloc, "fill a x 4294967295", line)?;
     let line = consume_line(alloc, 2_305_843_009_213_693_951);
     expect_row(&rt, alloc, "consume a 2305843009213693951", line)?;
-    expect_row(&rt, alloc, "change a x 0", path_line(alloc, "change", &["x"]))
+    expect_row(
+        &rt,
+        alloc,
+        "change a x 0",
+        path_line(alloc, "change", &["x"]),
+    )
 }
 
 fn put_line(alloc: Global, text: &str) -> Result<Line, Fail> {
@@ -289,7 +294,11 @@ fn mkdir_row(alloc: Global, component: &str, count: u8) -> Result<String, Fail> 
 }
 
 /// How many lines are read from a `mkdir` row with a path of so many of these components.
-fn lines_with(alloc: Global, component: &str, count: u8) -> Result<Result<usize, ParseError>, Fail> {
+fn lines_with(
+    alloc: Global,
+    component: &str,
+    count: u8,
+) -> Result<Result<usize, ParseError>, Fail> {
     let row = mkdir_row(alloc, component, count)?;
     Ok(parse(alloc, row.as_bytes()).map(|lines| lines.len()))
 }
