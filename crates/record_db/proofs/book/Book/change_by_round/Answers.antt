@@ -1,5 +1,10 @@
+use Rattle.std.proofs.Common.{ap, subst, sym, None}
+use Rattle.record_db.specs.Steps.{Widens}
 use Rattle.record_db.proofs.Widening.{widens_round}
 use Rattle.record_db.proofs.book.Book.change_by_round.Goals as goal
 
 pub cover-requires-clause-widens : goal.cover-requires-clause-widens
-cover-requires-clause-widens c = widens_round c.args.self.old.state c.args.sent c.args.vector c.vector.ensures.book c.requires.allowed c.requires.vector c.requires.within
+cover-requires-clause-widens c =
+    let is = ap (λ seen. seen.state.consumed) c.self.view_is in
+    subst (λ n. Widens c.args.self.now.state c.args.vector n None) (sym is)
+    (widens_round c.args.self.now.state c.args.sent c.args.vector c.vector.ensures.book c.requires.allowed c.requires.vector c.requires.within)
