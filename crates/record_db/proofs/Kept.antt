@@ -4,6 +4,7 @@ use Rattle.std.specs.Prelude.{option_map}
 use Rattle.std.specs.List.{AllByRecursion}
 use Rattle.std.proofs.lemmas.Bool.Decides.{nat_tests}
 use Rattle.frs_base.specs.Versions.{same_gvsn, same_uid, uid_lt}
+use Rattle.frs_base.specs.declared.kind.Phase.TheVariants.{Normal}
 use Rattle.frs_base.specs.declared.version.Gvsn.{Gvsn}
 use Rattle.frs_base.specs.declared.version.Uid.{Uid}
 use Rattle.version_vector.specs.Versions.{IsCanonical, covers}
@@ -73,6 +74,19 @@ kept book vector next (Some u) form b w =
       within = w.within;
       staged = with_rising u.uid form book.staged b.staged;
     }
+
+-- a book whose round covers a wider vector
+pub kept_round : (book : BookState) (vector : List Interval) → IsBook book → Widens book vector book.consumed None → IsBook (record book { vector = vector; phase = Normal })
+kept_round book vector b w = record {
+  rising = b.rising;
+  set = b.set;
+  covered = covered_more book.vector vector book.records w.wider b.covered;
+  distinct = b.distinct;
+  made = w.made;
+  canonical = w.canonical;
+  within = w.within;
+  staged = b.staged;
+}
 
 -- a book without a form of a file
 pub kept_without : (book : BookState) (uid : Uid) → IsBook book → IsBook (record book { staged = staged_with uid None book.staged })

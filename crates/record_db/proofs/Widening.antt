@@ -5,13 +5,16 @@ use Rattle.std.proofs.lemmas.Bool.Decides.{nat_tests}
 use Rattle.frs_base.specs.Options.{none_or}
 use Rattle.frs_base.specs.Versions.{same_gvsn, same_uid}
 use Rattle.frs_base.specs.declared.version.Gvsn.{Gvsn}
+use Rattle.version_vector.specs.Places.{one_version}
+use Rattle.version_vector.specs.Unions.{inserted}
 use Rattle.version_vector.specs.Versions.{IsCanonical, covers, inside}
+use Rattle.version_vector.proofs.Insertions.{adds_version, inserted_form}
 use Rattle.version_vector.specs.declared.interval.Interval.{Interval}
 use Rattle.win_order.specs.declared.update.Update.{Update}
 use Rattle.record_db.specs.declared.command.BookCmd.TheVariants.{RecordLocal, Adopt, Finish}
 use Rattle.record_db.specs.Records.{both, plus}
 use Rattle.record_db.specs.State.{BookState, CoversBelow, IsBook, IsVector}
-use Rattle.record_db.specs.Steps.{CoversNew, Widens, covered_after, gives_way, has_next, is_ahead, is_past, may_adopt, may_finish, may_record, own_version}
+use Rattle.record_db.specs.Steps.{Changes, CoversNew, Widens, covered_after, covered_with, gives_way, has_next, is_ahead, is_past, may_adopt, may_finish, may_record, own_version}
 use Rattle.record_db.proofs.Keys.{same_gvsn_is}
 use Rattle.record_db.proofs.Sets.{both_cases, both_old, plus_cases, plus_new, plus_old}
 
@@ -28,6 +31,35 @@ and_second false b e = absurd (cc)
 not_true : (a : Bool) → not a ≡ true → a ≡ false
 not_true true e = absurd (cc)
 not_true false e = refl
+
+-- ---- one version more
+
+pub added : (g : Gvsn) (vector : List Interval) → IsCanonical vector → IsVector (plus (covers vector) g) (inserted (one_version g) vector)
+added g vector form = record { canonical = inserted_form (one_version g) vector (omega arith) form; covering = adds_version g vector form }
+
+pub changed_by_record : (book new : BookState) (usn : ℕ) (update : Option Update) (g : Gvsn) → g ≡ own_version book usn → IsBook book → new ≡ covered_with book g (usn + 1) update None → Changes (RecordLocal usn update) book new
+changed_by_record book new usn update g own b e = subst (Changes (RecordLocal usn update) book) (sym e) (record {
+  kind = refl;
+  own = refl;
+  set = refl;
+  records = refl;
+  vector = subst (λ h. IsVector (plus (covers book.vector) h) (inserted (one_version g) book.vector)) own (added g book.vector b.canonical);
+  consumed = refl;
+  phase = refl;
+  staged = refl;
+})
+
+pub changed_by_update : (book new : BookState) (u : Update) (form : Option (List ℕ)) → IsBook book → new ≡ covered_with book u.gvsn book.consumed (Some u) form → Changes (Adopt u form) book new
+changed_by_update book new u form b e = subst (Changes (Adopt u form) book) (sym e) (record {
+  kind = refl;
+  own = refl;
+  set = refl;
+  records = refl;
+  vector = added u.gvsn book.vector b.canonical;
+  consumed = refl;
+  phase = refl;
+  staged = refl;
+})
 
 -- ---- the next journal record
 

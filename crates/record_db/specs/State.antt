@@ -25,11 +25,12 @@ pub record BookState : Type 0 where
   pub phase : Phase
   pub staged : List Staged
 
--- its state, and how many more records, and how many more forms, need no memory
+-- its state, and how many more records, forms and intervals of the vector need no memory
 pub record Seen : Type 0 where
   pub state : BookState
   pub room : ℕ
   pub staged_room : ℕ
+  pub vector_room : ℕ
 
 -- a book of a member that has done nothing
 abbrev pub fresh_book : MemberKind → ℕ → ℕ → BookState

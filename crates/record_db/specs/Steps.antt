@@ -7,6 +7,8 @@ use Rattle.frs_base.specs.declared.kind.Phase.{Phase}
 use Rattle.frs_base.specs.declared.kind.Phase.TheVariants.{Normal}
 use Rattle.frs_base.specs.declared.version.Gvsn.{Gvsn}
 use Rattle.version_vector.specs.Limits.{IsTooLong}
+use Rattle.version_vector.specs.Places.{one_version}
+use Rattle.version_vector.specs.Unions.{inserted}
 use Rattle.version_vector.specs.Versions.{IsCanonical, covers}
 use Rattle.version_vector.specs.declared.errors.VectorError.{VectorError}
 use Rattle.version_vector.specs.declared.errors.VectorError.TheVariants.{VectorFull, Memory}
@@ -18,7 +20,7 @@ use Rattle.record_db.specs.declared.command.BookCmd.TheVariants.{RecordLocal, Ad
 use Rattle.record_db.specs.declared.command.Ready.{Ready}
 use Rattle.record_db.specs.Lists.{put_any}
 use Rattle.record_db.specs.Records.{Versions, both, plus}
-use Rattle.record_db.specs.Staged.{staged_after}
+use Rattle.record_db.specs.Staged.{staged_after, staged_by}
 use Rattle.record_db.specs.State.{BookState, CoversBelow, IsVector, Seen}
 
 -- a version of the book's own database
@@ -121,6 +123,15 @@ CoversMore less more = (g : Gvsn) → covers less g ≡ true → covers more g �
 abbrev pub CoversNew : List Interval → List Interval → Option Update → Type 0
 CoversNew less more update = MatchOption update (Unit {0}) (λ u. (covers more u.gvsn ≡ true) × (covers less u.gvsn ≡ false))
 
+-- the book with a version covered, the journal consumed so far, and the update put of whose file this form is staged
+abbrev pub covered_with : BookState → Gvsn → ℕ → Option Update → Option (List ℕ) → BookState
+covered_with book g next update form = record book {
+  records = put_any (option_map (in_set book.set) update) book.records;
+  vector = inserted (one_version g) book.vector;
+  consumed = next;
+  staged = staged_by update form book.staged;
+}
+
 -- a book may have this wider vector and this update, once it has consumed so far
 pub record Widens (book : BookState) (vector : List Interval) (next : ℕ) (update : Option Update) : Type 0 where
   pub canonical : IsCanonical vector
@@ -129,12 +140,28 @@ pub record Widens (book : BookState) (vector : List Interval) (next : ℕ) (upda
   pub new : CoversNew book.vector vector update
   pub made : CoversBelow book.own next vector
 
--- the command may be taken without memory: there is room for a record and for a form, and the vector is made
+-- one version more is covered without memory, and the vector isn't too long then
+pub record HasRoomFor (g : Gvsn) (book : Seen) : Type 0 where
+  pub room : 0 < book.vector_room
+  pub within : length (inserted (one_version g) book.state.vector) ≤ 65536
+
+-- a set that a round makes of the vector
+pub record IsMerged (sent : List Interval) (book : BookState) (merged : List Interval) : Type 0 where
+  pub vector : IsVector (both (covers book.vector) (covers sent)) merged
+  pub within : length merged ≤ 65536
+
+-- the vector has room for the version that the command covers, or is made for a round
+abbrev pub CanCover : BookCmd → List Interval → Seen → Type 0
+CanCover (RecordLocal usn update) merged book = HasRoomFor (own_version book.state usn) book
+CanCover (Adopt update form) merged book = HasRoomFor update.gvsn book
+CanCover (Finish sent) merged book = IsMerged sent book.state merged
+CanCover (Unstage uid) merged book = Unit {0}
+
+-- the command may be taken without memory: there is room for a record and for a form, and for what is covered
 pub record Fits (ready : Ready) (book : Seen) : Type 0 where
   pub room : 0 < book.room
   pub staged_room : 0 < book.staged_room
-  pub vector : is_allowed ready.cmd book.state ≡ true → IsVector (covered_after ready.cmd book.state) ready.vector
-  pub within : is_allowed ready.cmd book.state ≡ true → length ready.vector ≤ 65536
+  pub vector : is_allowed ready.cmd book.state ≡ true → CanCover ready.cmd ready.merged.items book
 
 -- the command may widen the vector
 abbrev pub IsWidening : BookCmd → Type 0

@@ -10,7 +10,7 @@ use crate::staged::{Staged, find_form};
 use frs_base::{Bytes, Guid, MemberKind, Phase, ReservedVec, Uid};
 use std::alloc::{AllocError, Global};
 use std::marker::Model;
-use version_vector::Vector;
+use version_vector::GrowingVector;
 use win_order::Update;
 
 /// The USN that a fresh member consumes first.
@@ -19,14 +19,15 @@ const FIRST_USN: u64 = 9;
 /// What a member knows of its folder: of each file or directory the record that it holds, the
 /// versions that it covers, and the contents that it has but hasn't installed.
 ///
-/// A contract sees its state, and for how many more records and staged forms it has room.
+/// A contract sees its state, and for how many more records, staged forms and intervals of its
+/// vector it has room.
 #[derive(Debug, Drop)]
 pub struct Book {
     kind: MemberKind,
     own: Guid,
     set: Guid,
     records: ReservedVec<Update>,
-    vector: Vector,
+    vector: GrowingVector,
     consumed: u64,
     phase: Phase,
     staged: ReservedVec<Staged>,
@@ -37,9 +38,9 @@ impl Model for Book {
 
     ghost Value = { Seen };
 
-    ghost view = { λ b. record { state = record { kind = b.kind; own = b.own; set = b.set; records = b.records.items; vector = b.vector; consumed = b.consumed; phase = b.phase; staged = b.staged.items }; room = b.records.room; staged_room = b.staged.room } };
+    ghost view = { λ b. record { state = record { kind = b.kind; own = b.own; set = b.set; records = b.records.items; vector = b.vector.items; consumed = b.consumed; phase = b.phase; staged = b.staged.items }; room = b.records.room; staged_room = b.staged.room; vector_room = b.vector.room } };
 
-    ghost invariant = { λ b. IsBook (record { kind = b.kind; own = b.own; set = b.set; records = b.records.items; vector = b.vector; consumed = b.consumed; phase = b.phase; staged = b.staged.items }) };
+    ghost invariant = { λ b. IsBook (record { kind = b.kind; own = b.own; set = b.set; records = b.records.items; vector = b.vector.items; consumed = b.consumed; phase = b.phase; staged = b.staged.items }) };
 }
 
 impl Book {
@@ -53,7 +54,7 @@ impl Book {
             own,
             set,
             records: ReservedVec::empty(),
-            vector: Vector::empty(),
+            vector: GrowingVector::empty(),
             consumed: FIRST_USN,
             phase: Phase::Initial,
             staged: ReservedVec::empty(),
@@ -90,8 +91,8 @@ impl Book {
     }
 
     /// The versions that the member covers.
-    pub fn vector(&self) -> &Vector
-        ensures vector { result.now ≡ self.now.state.vector }
+    pub fn vector(&self) -> &GrowingVector
+        ensures vector { result.now.items ≡ self.now.state.vector }
         ensures book { IsBook self.now.state }
     {
         &self.vector

@@ -2,7 +2,7 @@
 ghost use Rattle.std.specs.Prelude.{◌≡◌};
 
 use frs_base::{Bytes, Uid};
-use version_vector::Vector;
+use version_vector::{GrowingVector, Vector};
 use win_order::Update;
 
 /// A change of a book.
@@ -23,16 +23,16 @@ pub enum BookCmd {
 #[derive(Debug, Drop)]
 pub struct Ready {
     pub(crate) cmd: BookCmd,
-    // What the book covers afterwards, where the command's condition holds.
-    pub(crate) vector: Vector,
+    // What the book covers after a round, where its condition holds.
+    pub(crate) merged: GrowingVector,
 }
 
 impl Ready {
-    /// The command, and the vector that the book then has.
-    pub(crate) fn into_parts(self) -> (BookCmd, Vector)
-        ensures { result ≡ (self.cmd, self.vector) }
+    /// The command, and what the book then covers if it is a round.
+    pub(crate) fn into_parts(self) -> (BookCmd, GrowingVector)
+        ensures { result ≡ (self.cmd, self.merged) }
     {
-        let Ready { cmd, vector } = self;
-        (cmd, vector)
+        let Ready { cmd, merged } = self;
+        (cmd, merged)
     }
 }

@@ -16,7 +16,7 @@ use crate::answer::Answer;
 use crate::{Mark, Refusal, Reply};
 use record_db::{BookCmd, first_past};
 use std::alloc::{AllocError, Global};
-use version_vector::{Vector, VectorError};
+use version_vector::{GrowingVector, Vector, VectorError};
 use win_order::Update;
 
 /// The held record has no smaller key.
@@ -30,8 +30,8 @@ fn stands_by(held: Option<&Update>, update: &Update) -> bool
 }
 
 /// The vectors have the same intervals.
-fn are_same(a: &Vector, b: &Vector) -> bool
-    ensures { IsTrue result ↔ (a.now ≡ b.now) }
+fn are_same(a: &Vector, b: &GrowingVector) -> bool
+    ensures { IsTrue result ↔ (a.now ≡ b.now.items) }
 {
     a.intervals() == b.intervals()
 }

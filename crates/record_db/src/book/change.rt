@@ -1,11 +1,10 @@
 // The steps of commands.
-ghost use Rattle.std.specs.Prelude.{◌≡◌, ◌<◌, ◌≤◌, true, IfErr, IfOk, OnErr, OnOk, length, option_copied, option_map};
+ghost use Rattle.std.specs.Prelude.{◌≡◌, ◌<◌, ◌-◌, ◌^◌, true, IfErr, IfOk, OnErr, OnOk, option_copied};
 ghost use Rattle.frs_base.specs.Options.{none_or};
 ghost use Rattle.frs_base.specs.Versions.{same_gvsn};
-ghost use Rattle.record_db.specs.Lists.{put_any};
-ghost use Rattle.record_db.specs.Staged.{staged_by};
-ghost use Rattle.record_db.specs.State.{IsVector};
-ghost use Rattle.record_db.specs.Steps.{Changes, Fits, IsFull, IsStep, Widens, covered_after, gives_way, in_set, is_ahead, is_allowed, may_adopt, may_finish, may_record, own_version};
+ghost use Rattle.version_vector.specs.Places.{one_version};
+ghost use Rattle.version_vector.specs.Unions.{inserted};
+ghost use Rattle.record_db.specs.Steps.{CanCover, Changes, Fits, HasRoomFor, IsFull, IsMerged, IsStep, Widens, covered_with, gives_way, is_ahead, is_allowed, may_adopt, may_finish, may_record, own_version};
 ghost use Rattle.record_db.specs.declared.command.BookCmd.TheVariants.{RecordLocal, Adopt, Finish, Unstage};
 
 use crate::records::put_record;
@@ -13,7 +12,7 @@ use crate::staged::{drop_form, put_form};
 use crate::{Book, BookCmd, Ready, first_past};
 use frs_base::{Bytes, Guid, Gvsn, Phase, Uid};
 use std::alloc::Global;
-use version_vector::{Vector, VectorError};
+use version_vector::{GrowingVector, Vector, VectorError};
 use win_order::Update;
 
 /// The record of a file, if there is one, gives way to an update.
@@ -93,32 +92,37 @@ impl Book {
         }
     }
 
-    /// The vector after a command whose condition holds.
-    fn covered_after(&self, alloc: Global, cmd: &BookCmd) -> Result<Vector, VectorError>
-        requires { is_allowed cmd.now self.now.state ≡ true }
-        ensures vector { IfOk result (λ vector. IsVector (covered_after cmd.now self.now.state) vector) }
-        ensures within { IfOk result (λ vector. length vector ≤ 65_536) }
-        ensures full { IfErr result (λ e. IsFull e cmd.now self.now.state) }
+    /// Takes the memory that a command whose condition holds needs to cover what it covers, and
+    /// answers what a round makes of the vector.
+    fn make_room(&mut self, alloc: Global, cmd: &BookCmd) -> Result<GrowingVector, VectorError>
+        requires { is_allowed cmd.now self.old.state ≡ true }
+        ensures same { self.new.state ≡ self.old.state }
+        ensures covers { IfOk result (λ merged. CanCover cmd.now merged.items self.new) }
+        ensures full { IfErr result (λ e. IsFull e cmd.now self.old.state) }
     {
-        let mut vector = self.vector().copy(alloc)?;
         match cmd {
-            BookCmd::RecordLocal { usn, update: _ } => vector.add(alloc, self.own_version(*usn))?,
-            BookCmd::Adopt { update, form: _ } => vector.add(alloc, update.gvsn)?,
-            BookCmd::Finish { sent } => vector.merge(alloc, sent)?,
+            BookCmd::RecordLocal { usn, update: _ } => {
+                let version = self.own_version(*usn);
+                self.vector.reserve(alloc, version)?;
+            }
+            BookCmd::Adopt { update, form: _ } => self.vector.reserve(alloc, update.gvsn)?,
+            BookCmd::Finish { sent } => return self.vector.merged(alloc, sent),
             BookCmd::Unstage { uid: _ } => {}
         }
-        Ok(vector)
+        Ok(GrowingVector::empty())
     }
 
-    /// Takes a vector that covers more, with how far the journal is consumed, and puts an update
-    /// that it newly covers, of whose file this form, or nothing, is staged then.
-    fn cover(&mut self, vector: Vector, next: u64, update: Option<Update>, form: Option<Bytes>)
+    /// Covers a version more, with how far the journal is consumed, and puts an update that has
+    /// it, of whose file this form, or nothing, is staged then.
+    fn cover(&mut self, g: Gvsn, next: u64, update: Option<Update>, form: Option<Bytes>)
+        requires version { g.version < 2 ^ 64 - 1 }
         requires room { 0 < self.old.room }
         requires staged_room { 0 < self.old.staged_room }
-        requires widens { Widens self.old.state vector next update }
-        ensures { self.new.state ≡ record self.old.state { records = put_any (option_map (in_set self.old.state.set) update) self.old.state.records; vector = vector; consumed = next; staged = staged_by update form self.old.state.staged } }
+        requires vector_room { 0 < self.old.vector_room }
+        requires widens { Widens self.old.state (inserted (one_version g) self.old.state.vector) next update }
+        ensures { self.new.state ≡ covered_with self.old.state g next update form }
     {
-        self.vector = vector;
+        self.vector.cover(g);
         self.consumed = next;
         if let Some(update) = update {
             let mut update = update;
@@ -129,60 +133,54 @@ impl Book {
     }
 
     /// Consumes the next journal record.
-    fn change_by_record(&mut self, usn: u64, vector: Vector, update: Option<Update>)
+    fn change_by_record(&mut self, usn: u64, update: Option<Update>)
         requires allowed { is_allowed (RecordLocal usn update) self.old.state ≡ true }
         requires room { 0 < self.old.room }
         requires staged_room { 0 < self.old.staged_room }
-        requires vector { IsVector (covered_after (RecordLocal usn update) self.old.state) vector }
-        requires within { length vector ≤ 65_536 }
+        requires vector { HasRoomFor (own_version self.old.state usn) self.old }
         ensures { Changes (RecordLocal usn update) self.old.state self.new.state }
     {
         let _ = self.vector();
-        self.cover(vector, usn + 1, update, None);
+        let version = self.own_version(usn);
+        self.cover(version, usn + 1, update, None);
     }
 
     /// Puts a partner's update.
-    fn change_by_update(&mut self, vector: Vector, update: Update, form: Option<Bytes>)
+    fn change_by_update(&mut self, update: Update, form: Option<Bytes>)
         requires allowed { is_allowed (Adopt update form) self.old.state ≡ true }
         requires room { 0 < self.old.room }
         requires staged_room { 0 < self.old.staged_room }
-        requires vector { IsVector (covered_after (Adopt update form) self.old.state) vector }
-        requires within { length vector ≤ 65_536 }
+        requires vector { HasRoomFor update.gvsn self.old }
         ensures { Changes (Adopt update form) self.old.state self.new.state }
     {
         let _ = self.vector();
+        let version = update.gvsn;
         let next = self.consumed;
-        self.cover(vector, next, Some(update), form);
+        self.cover(version, next, Some(update), form);
     }
 
     /// Covers all that a partner sent.
-    fn change_by_round(&mut self, vector: Vector, sent: Vector)
+    fn change_by_round(&mut self, merged: GrowingVector, sent: Vector)
         requires allowed { is_allowed (Finish sent) self.old.state ≡ true }
-        requires room { 0 < self.old.room }
-        requires staged_room { 0 < self.old.staged_room }
-        requires vector { IsVector (covered_after (Finish sent) self.old.state) vector }
-        requires within { length vector ≤ 65_536 }
+        requires merged { IsMerged sent self.old.state merged.items }
         ensures { Changes (Finish sent) self.old.state self.new.state }
     {
-        let _ = self.vector();
-        let next = self.consumed;
-        self.cover(vector, next, None, None);
+        self.vector = merged;
         self.phase = Phase::Normal;
     }
 
     /// Does a command whose condition holds.
-    fn change(&mut self, cmd: BookCmd, vector: Vector)
+    fn change(&mut self, cmd: BookCmd, merged: GrowingVector)
         requires allowed { is_allowed cmd self.old.state ≡ true }
         requires room { 0 < self.old.room }
         requires staged_room { 0 < self.old.staged_room }
-        requires vector { IsVector (covered_after cmd self.old.state) vector }
-        requires within { length vector ≤ 65_536 }
+        requires vector { CanCover cmd merged.items self.old }
         ensures { Changes cmd self.old.state self.new.state }
     {
         match cmd {
-            BookCmd::RecordLocal { usn, update } => self.change_by_record(usn, vector, update),
-            BookCmd::Adopt { update, form } => self.change_by_update(vector, update, form),
-            BookCmd::Finish { sent } => self.change_by_round(vector, sent),
+            BookCmd::RecordLocal { usn, update } => self.change_by_record(usn, update),
+            BookCmd::Adopt { update, form } => self.change_by_update(update, form),
+            BookCmd::Finish { sent } => self.change_by_round(merged, sent),
             BookCmd::Unstage { uid } => self.unstage(uid),
         }
     }
@@ -195,14 +193,14 @@ impl Book {
         ensures fits { IfOk result (λ ready. Fits ready self.new) }
         ensures full { IfErr result (λ e. IsFull e cmd self.old.state) }
     {
-        let vector = if self.is_allowed(&cmd) {
-            self.covered_after(alloc, &cmd)?
+        let merged = if self.is_allowed(&cmd) {
+            self.make_room(alloc, &cmd)?
         } else {
-            Vector::empty()
+            GrowingVector::empty()
         };
         self.records.reserve_one(alloc)?;
         self.staged.reserve_one(alloc)?;
-        Ok(Ready { cmd, vector })
+        Ok(Ready { cmd, merged })
     }
 
     /// Does a command for which there is room. A command whose condition doesn't hold changes
@@ -211,9 +209,9 @@ impl Book {
         requires { Fits ready self.old }
         ensures { IsStep ready.cmd self.old.state self.new.state }
     {
-        let (cmd, vector) = ready.into_parts();
+        let (cmd, merged) = ready.into_parts();
         if self.is_allowed(&cmd) {
-            self.change(cmd, vector);
+            self.change(cmd, merged);
         }
     }
 

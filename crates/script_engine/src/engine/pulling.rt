@@ -19,7 +19,7 @@ use name_rules::is_file;
 use pinned_pages::{Body, FileAnswer, Pinned};
 use std::alloc::{AllocError, Global};
 use std::cmp::Ordering;
-use version_vector::Vector;
+use version_vector::{GrowingVector, Vector};
 use win_order::Update;
 
 /// What came of pages: the files that are still to be fetched, and how many updates were taken.
@@ -61,8 +61,8 @@ fn by_version(a: &Update, b: &Update) -> Ordering
 }
 
 /// Those whose versions a vector doesn't cover.
-fn uncovered(alloc: Global, vector: &Vector, records: &[Update]) -> Result<Vec<Update>, AllocError>
-    ensures { IfOk result (λ page. page.items ≡ uncovered vector.now records.now) }
+fn uncovered(alloc: Global, vector: &GrowingVector, records: &[Update]) -> Result<Vec<Update>, AllocError>
+    ensures { IfOk result (λ page. page.items ≡ uncovered vector.now.items records.now) }
 {
     let mut page = Vec::new(alloc);
     for record in records {
@@ -74,8 +74,8 @@ fn uncovered(alloc: Global, vector: &Vector, records: &[Update]) -> Result<Vec<U
 }
 
 /// Those whose versions a vector doesn't cover, in order of their versions.
-fn page_of(alloc: Global, vector: &Vector, records: &[Update]) -> Result<Vec<Update>, AllocError>
-    ensures { IfOk result (λ page. IsPermutation (uncovered vector.now records.now) page.items × IsSortedBy version_lt page.items) }
+fn page_of(alloc: Global, vector: &GrowingVector, records: &[Update]) -> Result<Vec<Update>, AllocError>
+    ensures { IfOk result (λ page. IsPermutation (uncovered vector.now.items records.now) page.items × IsSortedBy version_lt page.items) }
 {
     let mut page = uncovered(alloc, vector, records)?;
     page.sort_unstable_by(|a, b| by_version(a, b));
