@@ -1,4 +1,5 @@
 mod Made
+mod Examples
 pub mod Cases
 pub mod Shown
 pub mod Parents

@@ -1,3 +1,4 @@
 pub mod Recorded
 pub mod Tree
 pub mod Next
+pub mod Examples

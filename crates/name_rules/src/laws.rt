@@ -1,4 +1,5 @@
 // Laws of the definitions.
+ghost use Rattle.name_rules.specs.Examples.{AloneIsShown, ChildOfPresent, ChildOfRemoved, MatchingNames};
 ghost use Rattle.name_rules.specs.Recorded.{MakesOwnVersion, PassesReplicas};
 
 /// An update that a journal record makes has the own database and the record's USN as its version.
@@ -9,4 +10,17 @@ pub fn made_updates_have_their_version()
 /// No update is made of what the installer did.
 pub fn nothing_is_made_of_a_replica_record()
     ensures { PassesReplicas }
+{}
+
+/// Of two records with matching names in one directory the one with the greater key is shown, and
+/// the other isn't; alone it is.
+pub fn matching_names_show_the_greatest()
+    ensures greatest { MatchingNames }
+    ensures alone { AloneIsShown }
+{}
+
+/// What stands in a directory that was removed is hidden; while the directory is there, it is shown.
+pub fn children_of_what_is_removed_are_hidden()
+    ensures hidden { ChildOfRemoved }
+    ensures shown { ChildOfPresent }
 {}

@@ -1,11 +1,15 @@
 //! What the records of a member say of its volume, and what its journal makes of them.
 //!
-//! So far the definition of what a journal record makes stands here, in `specs/Recorded.antt`, with
-//! two laws that it keeps, and [`is_file`].
+//! The definitions stand here: what a journal record makes (`specs/Recorded.antt`), which records are
+//! shown, and trees (`specs/Tree.antt`), and the installer's next step (`specs/Next.antt`); with laws
+//! that they keep, and [`is_file`].
 #![tactic(auto)]
 
 mod kinds;
 mod laws;
 
 pub use kinds::is_file;
-pub use laws::{made_updates_have_their_version, nothing_is_made_of_a_replica_record};
+pub use laws::{
+    children_of_what_is_removed_are_hidden, made_updates_have_their_version,
+    matching_names_show_the_greatest, nothing_is_made_of_a_replica_record,
+};
