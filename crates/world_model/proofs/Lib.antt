@@ -27,3 +27,4 @@ pub mod Progress
 pub mod Deciding
 pub mod Due
 pub mod Views
+mod Drained

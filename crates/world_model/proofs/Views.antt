@@ -102,7 +102,7 @@ is_exact R l own m uid (inl (f, o, s)) = by o.place refl (has_decided R l uid)
     by (Some p) e (inl (u, r, id)) = at p e u r id (uid_cases u.parent (parent_uid own m p.0)) (list_decided u.name p.1)
 
 -- whether two sums are one
-sum_decided : (a b : Sum) → Decided (a ≡ b)
+pub sum_decided : (a b : Sum) → Decided (a ≡ b)
 sum_decided a b = elim (list_decided a.0 b.0) [ inl e ↦ inl (λ i. record { 0 = e i }) | inr n ↦ inr (λ e. n (ap (λ (s : Sum). s.0) e)) ]
 
 -- whether a file's object has another sum than its record

@@ -200,3 +200,14 @@ AreDone w d (step ∷ steps) new = (mid : World) × IsDone w d step mid × AreDo
 -- so at most four are done for a file, where nothing else happens between them
 abbrev pub AtMostFourAreDone : Type 0
 AtMostFourAreDone = (w : World) → Invariant w → (d : ℕ) (steps : List InstallStep) (new : World) → AreDone w d steps new → (uid : Uid) → count_by (λ step. is_for step uid) steps ≤ 4
+
+-- ---- drained members
+
+-- where no local record is pending, all is consumed and nothing is due for any file, a member is drained
+abbrev pub DrainedWhereNothingIsDue : Type 0
+DrainedWhereNothingIsDue = (w : World) → Invariant w → (d : ℕ) → IsQuiet (w.at d).consumed (w.at d).volume → (w.at d).consumed ≡ (w.at d).volume.next_usn
+    → ((uid : Uid) (v : View) → SeesAt w d uid v → due v ≡ 0) → IsDrainedAt w d
+
+-- so is one that has done nothing
+abbrev pub FreshMembersAreDrained : Type 0
+FreshMembersAreDrained = (kinds : ℕ → MemberKind) (d : ℕ) → IsDrainedAt (fresh_world kinds) d

@@ -1,5 +1,5 @@
 // What holds of every run.
-ghost use Rattle.world_model.specs.Laws.{AdoptionsAreFit, AllFoldersStaySound, AllIsCounted, AtMostFourAreDone, AtMostFourAreDue, CoverIsStable, CoveredIsHeld, DrainedVolumesAreTrees, EqualVectorsHaveEqualRecords, EqualVectorsHaveEqualTrees, EventsKeepTheInvariant, FinishedRoundsAreHeld, FlightsCanLand, FoldersBeginSound, FreshWorldsAreSound, LivesAreSound, NextStepsCanBeDone, PendingObjectsStay, RoundsStayTrue, RunsKeepTheInvariant, StaysCovered, StepsLowerWhatIsDue, ViewsAreThere};
+ghost use Rattle.world_model.specs.Laws.{AdoptionsAreFit, AllFoldersStaySound, AllIsCounted, AtMostFourAreDone, AtMostFourAreDue, CoverIsStable, CoveredIsHeld, DrainedVolumesAreTrees, DrainedWhereNothingIsDue, EqualVectorsHaveEqualRecords, EqualVectorsHaveEqualTrees, EventsKeepTheInvariant, FinishedRoundsAreHeld, FlightsCanLand, FoldersBeginSound, FreshMembersAreDrained, FreshWorldsAreSound, LivesAreSound, NextStepsCanBeDone, PendingObjectsStay, RoundsStayTrue, RunsKeepTheInvariant, StaysCovered, StepsLowerWhatIsDue, ViewsAreThere};
 
 /// Members that have done nothing keep the invariant.
 pub fn fresh_worlds_are_sound()
@@ -119,4 +119,11 @@ pub fn views_are_there()
 /// At most four steps of the installer are done for a file, where nothing else happens between them.
 pub fn at_most_four_are_done()
     ensures { AtMostFourAreDone }
+{}
+
+/// A member is drained where no local record is pending, all is consumed, and nothing is due for any
+/// file; and so is one that has done nothing.
+pub fn members_are_drained_where_nothing_is_due()
+    ensures due { DrainedWhereNothingIsDue }
+    ensures fresh { FreshMembersAreDrained }
 {}
