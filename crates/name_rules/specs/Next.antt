@@ -1,5 +1,6 @@
 -- What the installer does next, by the records of a member.
-use Rattle.std.specs.Prelude.{◌≡◌, ◌≢◌, ◌≤◌, ℕ, true, false, List, Option, Some, None}
+use Rattle.std.specs.Prelude.{◌≡◌, ◌≢◌, ◌≤◌, ◌==◌, ◌&&◌, ◌||◌, nat_lt, ℕ, Bool, true, false, List, Option, Some, None}
+use Rattle.frs_base.specs.Versions.{uid_lt}
 use Rattle.frs_base.specs.declared.sum.Sum.{Sum}
 use Rattle.frs_base.specs.declared.version.Uid.{Uid}
 use Rattle.win_order.specs.declared.update.Update.{Update}
@@ -93,6 +94,25 @@ IsCandidate Records own m staged consumed (Place uid) =
 IsCandidate Records own m staged consumed (Unstage uid) =
     (fid : ℕ) × (o : Object) × IsAt m fid o × (uid_of own o ≡ uid) × (staged uid ≡ Some o.sum)
 IsCandidate Records own m staged consumed (Skip usn) = (r : VolRecord) × (usn ≡ consumed) × (m.entry usn ≡ Some r)
+
+-- where a step stands in their order: its kind, then its file
+abbrev pub place_of : Step → ℕ × Uid
+place_of (Park uid) = (0, uid)
+place_of (Erase uid) = (1, uid)
+place_of (Make uid) = (2, uid)
+place_of (Rewrite uid) = (3, uid)
+place_of (Place uid) = (4, uid)
+place_of (Unstage uid) = (5, uid)
+place_of (Skip usn) = (6, record { db = 0; version = usn })
+
+-- of two places the first is lower
+abbrev pub place_lt : ℕ × Uid → ℕ × Uid → Bool
+place_lt a b = nat_lt a.0 b.0 || (a.0 == b.0 && uid_lt a.1 b.1)
+
+-- the next step: a candidate before which no other comes, so it is of the first kind that has one, and for the least file
+pub record IsNext (Records : Update → Type 0) (own : ℕ) (m : Maps) (staged : Uid → Option Sum) (consumed : ℕ) (step : Step) : Type 0 where
+  pub candidate : IsCandidate Records own m staged consumed step
+  pub first : (other : Step) → IsCandidate Records own m staged consumed other → place_lt (place_of other) (place_of step) ≡ false
 
 -- no earlier kind has a candidate
 abbrev pub IsTurn : (Update → Type 0) → ℕ → Maps → (Uid → Option Sum) → Step → Type 0

@@ -28,3 +28,4 @@ pub mod Deciding
 pub mod Due
 pub mod Views
 mod Drained
+mod Next

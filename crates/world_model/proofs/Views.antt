@@ -50,10 +50,10 @@ below own m uid (suc k) = by (m.at k) refl (below own m uid k)
     ]
 
 -- a file has one object or none
-abbrev HasSite : ℕ → Maps → Uid → Type 0
+abbrev pub HasSite : ℕ → Maps → Uid → Type 0
 HasSite own m uid = ((f : ℕ) × (o : Object) × IsSite own m uid f o) ⊎ IsNew own m uid
 
-has_site : (own : ℕ) (m : Maps) (consumed : ℕ) (uid : Uid) → PlacesAreATree own m → NumbersAreFresh m consumed → HasSite own m uid
+pub has_site : (own : ℕ) (m : Maps) (consumed : ℕ) (uid : Uid) → PlacesAreATree own m → NumbersAreFresh m consumed → HasSite own m uid
 has_site own m consumed uid tree fresh = elim (below own m uid m.next_fid) [
   | inl (f, o, l, h) ↦ inl (f, o, site own m f o uid tree h.0 h.1)
   | inr n ↦ inr (λ f o at id. n (f, o, fresh.fids f o at, (at, id)))
@@ -66,7 +66,7 @@ told_by (inl p) = (true, inl (refl, p))
 told_by (inr n) = (false, inr (refl, n))
 
 -- whether a file's record passes a test
-of_record : (R : Update → Type 0) (l : IsListed R) (uid : Uid) (P : Update → Type 0) → ((u : Update) → R u → Decided (P u)) → Decided ((u : Update) × R u × (u.uid ≡ uid) × P u)
+pub of_record : (R : Update → Type 0) (l : IsListed R) (uid : Uid) (P : Update → Type 0) → ((u : Update) → R u → Decided (P u)) → Decided ((u : Update) × R u × (u.uid ≡ uid) × P u)
 of_record R l uid P each = elim (has_decided R l uid) [
   | inl (u, r, id) ↦ elim (each u r) [ inl p ↦ inl (u, r, id, p) | inr n ↦ inr (λ (q, r', id', p). n (subst P (l.one q u r' r (id' ∙ sym id)) p)) ]
   | inr n ↦ inr (λ (q, r', id', p). n (q, r', id'))
@@ -121,7 +121,7 @@ is_object : (own : ℕ) (m : Maps) (uid : Uid) → HasSite own m uid → Decided
 is_object own m uid (inl (f, o, s)) = inl (f, o, (s.there, s.is))
 is_object own m uid (inr n) = inr (λ (f, o, h). n f o h.0 h.1)
 
-is_shown : (R : Update → Type 0) (l : IsListed R) (uid : Uid) → Decided ((u : Update) × IsShown R u × (u.uid ≡ uid))
+pub is_shown : (R : Update → Type 0) (l : IsListed R) (uid : Uid) → Decided ((u : Update) × IsShown R u × (u.uid ≡ uid))
 is_shown R l uid = elim (of_record R l uid (IsShown R) (shown_decided R l)) [
   | inl (u, r, id, s) ↦ inl (u, s, id)
   | inr n ↦ inr (λ (u, s, id). n (u, shown_record R u s, id, s))

@@ -1,5 +1,5 @@
 -- What holds of every run.
-use Rattle.std.specs.Prelude.{◌≡◌, ◌↔◌, ◌<◌, ◌≤◌, ◌-◌, ℕ, true, false, All, List, [], Option, length, sum_by, Bool, ◌∷◌, count_by}
+use Rattle.std.specs.Prelude.{◌≡◌, ◌⊎◌, ◌↔◌, ◌<◌, ◌≤◌, ◌-◌, ℕ, true, false, All, List, [], Option, length, sum_by, Bool, ◌∷◌, count_by}
 use Rattle.frs_base.specs.Options.{In}
 use Rattle.frs_base.specs.Versions.{same_uid}
 use Rattle.frs_base.specs.declared.kind.Kind.{Kind}
@@ -9,12 +9,13 @@ use Rattle.frs_base.specs.declared.version.Gvsn.{Gvsn}
 use Rattle.frs_base.specs.declared.version.Uid.{Uid}
 use Rattle.win_order.specs.declared.update.Update.{Update}
 use Rattle.vol_state.specs.declared.object.Object.{Object}
+use Rattle.vol_state.specs.declared.record.VolRecord.{VolRecord}
 use Rattle.vol_state.specs.declared.command.VolCmd.{VolCmd}
 use Rattle.vol_state.specs.State.{uid_of}
 use Rattle.vol_state.specs.Tables.{IsAt}
 use Rattle.record_db.specs.Records.{Versions, Covered, IsHeldOrBeaten}
 use Rattle.name_rules.specs.Tree.{IsRow, IsVolumeRow, kind_of}
-use Rattle.name_rules.specs.Next.{IsCandidate, IsDrained, IsPending, IsQuiet, IsStepOf, IsTurn, Step as InstallStep}
+use Rattle.name_rules.specs.Next.{IsCandidate, IsDrained, IsNext, IsPending, IsQuiet, IsStepOf, IsTurn, Step as InstallStep}
 use Rattle.world_model.specs.World.{Member, World, SentVector, IsRecordOf, fresh_member, fresh_world}
 use Rattle.world_model.specs.Events.{Event, Step, Adopt, Install, Unstage, IsAllHeld, Consume}
 use Rattle.world_model.specs.Runs.{CoversAlike, Grows, Happening, Run}
@@ -211,3 +212,26 @@ DrainedWhereNothingIsDue = (w : World) → Invariant w → (d : ℕ) → IsQuiet
 -- so is one that has done nothing
 abbrev pub FreshMembersAreDrained : Type 0
 FreshMembersAreDrained = (kinds : ℕ → MemberKind) (d : ℕ) → IsDrainedAt (fresh_world kinds) d
+
+-- ---- the next step
+
+-- each journal record that isn't consumed is there
+abbrev pub HasItsRecords : Member → Type 0
+HasItsRecords x = (n : ℕ) → x.consumed ≤ n → n < x.volume.next_usn → (r : VolRecord) × (x.volume.entry n ≡ Option.Some r)
+
+-- the next step of a member
+abbrev pub IsNextAt : World → ℕ → InstallStep → Type 0
+IsNextAt w d step = IsNext (IsRecordOf w d) d (w.at d).volume (w.at d).staged (w.at d).consumed step
+
+-- a member with no pending local record is drained, or has a next step, whose turn it is
+abbrev pub QuietMembersGoOn : Type 0
+QuietMembersGoOn = (w : World) → Invariant w → (d : ℕ) → HasItsRecords (w.at d) → IsQuiet (w.at d).consumed (w.at d).volume
+    → IsDrainedAt w d ⊎ ((step : InstallStep) × IsNextAt w d step × IsTurn (IsRecordOf w d) d (w.at d).volume (w.at d).staged step)
+
+-- it has one at most
+abbrev pub NextStepsAreOne : Type 0
+NextStepsAreOne = (w : World) (d : ℕ) (a b : InstallStep) → IsNextAt w d a → IsNextAt w d b → a ≡ b
+
+-- a drained member has none
+abbrev pub DrainedMembersHaveNone : Type 0
+DrainedMembersHaveNone = (w : World) → Invariant w → (d : ℕ) → IsDrainedAt w d → (step : InstallStep) → IsNextAt w d step → ⊥

@@ -1,5 +1,5 @@
 // What holds of every run.
-ghost use Rattle.world_model.specs.Laws.{AdoptionsAreFit, AllFoldersStaySound, AllIsCounted, AtMostFourAreDone, AtMostFourAreDue, CoverIsStable, CoveredIsHeld, DrainedVolumesAreTrees, DrainedWhereNothingIsDue, EqualVectorsHaveEqualRecords, EqualVectorsHaveEqualTrees, EventsKeepTheInvariant, FinishedRoundsAreHeld, FlightsCanLand, FoldersBeginSound, FreshMembersAreDrained, FreshWorldsAreSound, LivesAreSound, NextStepsCanBeDone, PendingObjectsStay, RoundsStayTrue, RunsKeepTheInvariant, StaysCovered, StepsLowerWhatIsDue, ViewsAreThere};
+ghost use Rattle.world_model.specs.Laws.{AdoptionsAreFit, AllFoldersStaySound, AllIsCounted, AtMostFourAreDone, AtMostFourAreDue, CoverIsStable, CoveredIsHeld, DrainedMembersHaveNone, DrainedVolumesAreTrees, DrainedWhereNothingIsDue, EqualVectorsHaveEqualRecords, EqualVectorsHaveEqualTrees, EventsKeepTheInvariant, FinishedRoundsAreHeld, FlightsCanLand, FoldersBeginSound, FreshMembersAreDrained, FreshWorldsAreSound, LivesAreSound, NextStepsAreOne, NextStepsCanBeDone, PendingObjectsStay, QuietMembersGoOn, RoundsStayTrue, RunsKeepTheInvariant, StaysCovered, StepsLowerWhatIsDue, ViewsAreThere};
 
 /// Members that have done nothing keep the invariant.
 pub fn fresh_worlds_are_sound()
@@ -126,4 +126,11 @@ pub fn at_most_four_are_done()
 pub fn members_are_drained_where_nothing_is_due()
     ensures due { DrainedWhereNothingIsDue }
     ensures fresh { FreshMembersAreDrained }
+{}
+
+/// A member with no pending local record is drained, or has one next step, whose turn it is.
+pub fn quiet_members_go_on()
+    ensures goes_on { QuietMembersGoOn }
+    ensures one { NextStepsAreOne }
+    ensures drained { DrainedMembersHaveNone }
 {}

@@ -11,8 +11,8 @@ pub use laws::{
     equal_vectors_have_equal_trees, events_keep_the_invariant, finished_rounds_are_held,
     flights_can_land, folders_begin_sound, folders_stay_sound, fresh_worlds_are_sound,
     lives_are_sound, members_are_drained_where_nothing_is_due, next_steps_can_be_done,
-    pending_objects_stay, rounds_stay_true, runs_keep_the_invariant, steps_lower_what_is_due,
-    views_are_there, what_is_covered_is_held, what_is_sent_stays_covered,
+    pending_objects_stay, quiet_members_go_on, rounds_stay_true, runs_keep_the_invariant,
+    steps_lower_what_is_due, views_are_there, what_is_covered_is_held, what_is_sent_stays_covered,
 };
 pub use small_worlds::{
     a_cycle_of_parents_is_hidden, a_tie_has_one_winner, superseded_is_adopted_and_finished,
