@@ -5,3 +5,4 @@ pub mod Stubs
 pub mod Requests
 pub mod Replies
 pub mod Stated
+pub mod Written

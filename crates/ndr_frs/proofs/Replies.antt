@@ -3,6 +3,7 @@ use Rattle.std.proofs.Common.{◌≡◌, ◌∙◌, ℕ, ◌^◌, ◌<◌, ◌�
 use Rattle.std.specs.Prelude.{◌⊎◌, IfSome}
 use Rattle.std.proofs.lemmas.Bool.{eqb-true}
 use Rattle.version_vector.specs.declared.interval.Interval.{Interval}
+use Rattle.ndr_core.specs.Cursor.{Cursor}
 use Rattle.ndr_core.specs.Items.{AreBytes}
 use Rattle.ndr_core.specs.Laws.{IsLawful}
 use Rattle.ndr_core.proofs.Arrays.{conformant_lawful, lawful_many}
@@ -14,11 +15,12 @@ use Rattle.ndr_frs.specs.Stubs.{all_of}
 use Rattle.ndr_frs.specs.declared.refusal.StubBad.{StubBad}
 use Rattle.ndr_frs.specs.declared.refusal.StubBad.TheVariants as stubs
 use Rattle.ndr_frs.specs.Laws.{RepliesAreExact}
-use Rattle.ndr_frs.specs.Replies.{IsReply, IsStatus, IsVector, SpellsReply, as_check, as_close, as_connection, as_data, as_file, as_page, as_poll, as_session, as_vector, check_item, close_item, connection_item, data_item, file_item, page_item, poll_item, reply_appends, reply_number, reply_of, session_item, status_item, vector_item}
+use Rattle.ndr_frs.specs.Replies.{IsStatedReply, IsReply, IsStatus, IsVector, SpellsReply, as_check, as_close, as_connection, as_data, as_file, as_page, as_poll, as_session, as_vector, check_item, close_item, connection_item, data_item, file_item, page_item, poll_item, reply_appends, reply_number, reply_of, reply_reads, session_item, status_item, vector_item}
 use Rattle.ndr_frs.specs.declared.reply.FrsReply.{FrsReply}
 use Rattle.ndr_frs.specs.declared.reply.FrsReply.TheVariants as forms
 use Rattle.ndr_frs.proofs.Shared.{IsIntervals, below_lawful, bytes_lawful, intervals_lawful, update_lawful, updates_lawful}
-use Rattle.ndr_frs.proofs.Stubs.{branch, only_in, spelled_in, written_by}
+use Rattle.ndr_frs.proofs.Stated.{reply_stated}
+use Rattle.ndr_frs.proofs.Stubs.{all_done, branch, only_in, spelled_in, start, written_by}
 
 abbrev answer : FrsReply → Result FrsReply StubBad
 answer q = Ok q
@@ -63,6 +65,7 @@ session_lawful = lawful_where (λ t. IsReply (as_session t)) (λ t is. is)
     (number_32_lawful)
 
 page_lawful : IsLawful page_item (λ t. IsReply (as_page t))
+unfolding page_item
 page_lawful = lawful_where (λ t. IsReply (as_page t)) (λ t is. (record { limit = is.0; within = is.1; each = is.3 }, (is.4, (status_fits _ is.2, (is.5, (is.6, is.7))))))
     (updates_lawful ⊗ (number_32_lawful ⊗ (status_lawful ⊗ (guid_lawful ⊗ (number_64_lawful ⊗ number_32_lawful)))))
 
@@ -83,12 +86,14 @@ close_lawful = lawful_where (λ t. IsReply (as_close t)) (λ t is. is)
     (handle_lawful ⊗ number_32_lawful)
 
 file_lawful : IsLawful file_item (λ t. IsReply (as_file t))
+unfolding file_item
 file_lawful = lawful_where (λ t. IsReply (as_file t)) (λ t is. (is.2, (is.3, (record { limit = is.0; within = is.1; bytes = is.4 }, (is.5, (is.6, (is.7, is.8)))))))
     (update_lawful ⊗ (handle_lawful ⊗ (bytes_lawful ⊗ (number_32_lawful ⊗ (number_32_lawful ⊗ (number_64_lawful ⊗ number_32_lawful))))))
 
 -- ---- what is spelled is read
 
 only : (opnum : ℕ) (stub : List ℕ) (q : FrsReply) → SpellsReply opnum q stub → reply_of opnum stub ≡ Ok q
+unfolding reply_reads
 only opnum stub (forms.CheckConnectivity rc) s = ap (λ (n : ℕ). reply_of n stub) s.0 ∙ only_in check_item _ check_lawful as_check stub rc s.1
 only opnum stub (forms.EstablishConnection version flags rc) s = ap (λ (n : ℕ). reply_of n stub) s.0 ∙ only_in connection_item _ connection_lawful as_connection stub (version, (flags, rc)) s.1
 only opnum stub (forms.EstablishSession rc) s = ap (λ (n : ℕ). reply_of n stub) s.0 ∙ only_in session_item _ session_lawful as_session stub rc s.1
@@ -105,6 +110,7 @@ none : (q : FrsReply) → all_of {A = FrsReply} (Err stubs.Opnum) ≡ Ok q → �
 none q e = cc
 
 pub found : (opnum : ℕ) (stub : List ℕ) (q : FrsReply) → AreBytes stub → reply_of opnum stub ≡ Ok q → SpellsReply opnum q stub
+unfolding reply_reads
 found opnum stub q are read =
     elim (branch (eqb opnum 0) _ _ q read) [
       | inl of_check ↦ spelled_in check_item _ check_lawful as_check (λ r. SpellsReply opnum r stub) stub q are (λ t s. (eqb-true opnum 0 of_check.0, s)) of_check.1
@@ -134,6 +140,11 @@ found opnum stub q are read =
         ]
       ]
     ]
+
+-- and has the stated values
+pub read_stated : (opnum : ℕ) (stub : List ℕ) (begin end : Cursor) (q : FrsReply) → AreBytes stub → begin ≡ start stub → reply_reads opnum begin ≡ Ok (q, end) → true ≡ eqb (length end.rest) 0 → IsStatedReply q
+read_stated opnum stub begin end q are at read done =
+    reply_stated opnum stub q (found opnum stub q are (all_done (reply_reads opnum (start stub)) q end (ap (reply_reads opnum) (sym at) ∙ read) (sym done)))
 
 -- ---- what is written is spelled
 

@@ -3,6 +3,7 @@ use Rattle.std.proofs.Common.{◌≡◌, ◌∙◌, ℕ, ◌^◌, ◌<◌, ◌�
 use Rattle.std.specs.Prelude.{◌⊎◌, IfSome}
 use Rattle.std.proofs.lemmas.Bool.{eqb-true}
 use Rattle.version_vector.specs.declared.interval.Interval.{Interval}
+use Rattle.ndr_core.specs.Cursor.{Cursor}
 use Rattle.ndr_core.specs.Items.{AreBytes}
 use Rattle.ndr_core.specs.Laws.{IsLawful}
 use Rattle.ndr_core.proofs.Arrays.{conformant_lawful, lawful_many}
@@ -14,11 +15,12 @@ use Rattle.ndr_frs.specs.Stubs.{all_of}
 use Rattle.ndr_frs.specs.declared.refusal.StubBad.{StubBad}
 use Rattle.ndr_frs.specs.declared.refusal.StubBad.TheVariants as stubs
 use Rattle.ndr_frs.specs.Laws.{RequestsAreExact}
-use Rattle.ndr_frs.specs.Requests.{IsRequest, SpellsRequest, as_check, as_close, as_connection, as_data, as_file, as_page, as_poll, as_session, as_vector, check_item, close_item, connection_item, data_item, file_item, page_item, poll_item, request_appends, request_number, request_of, session_item, vector_item}
+use Rattle.ndr_frs.specs.Requests.{IsStatedRequest, IsRequest, SpellsRequest, as_check, as_close, as_connection, as_data, as_file, as_page, as_poll, as_session, as_vector, check_item, close_item, connection_item, data_item, file_item, page_item, poll_item, request_appends, request_number, request_of, request_reads, session_item, vector_item}
 use Rattle.ndr_frs.specs.declared.request.FrsRequest.{FrsRequest}
 use Rattle.ndr_frs.specs.declared.request.FrsRequest.TheVariants as forms
 use Rattle.ndr_frs.proofs.Shared.{below_lawful, interval_lawful, update_lawful}
-use Rattle.ndr_frs.proofs.Stubs.{branch, only_in, spelled_in, written_by}
+use Rattle.ndr_frs.proofs.Stated.{request_stated}
+use Rattle.ndr_frs.proofs.Stubs.{all_done, branch, only_in, spelled_in, start, written_by}
 
 abbrev answer : FrsRequest → Result FrsRequest StubBad
 answer q = Ok q
@@ -67,6 +69,7 @@ file_lawful = lawful_where (λ t. IsRequest (as_file t)) (λ t is. (is.0, (is.1,
 -- ---- what is spelled is read
 
 only : (opnum : ℕ) (stub : List ℕ) (q : FrsRequest) → SpellsRequest opnum q stub → request_of opnum stub ≡ Ok q
+unfolding request_reads
 only opnum stub (forms.CheckConnectivity replica_set connection) s = ap (λ (n : ℕ). request_of n stub) s.0 ∙ only_in check_item _ check_lawful as_check stub (replica_set, connection) s.1
 only opnum stub (forms.EstablishConnection replica_set connection version flags) s = ap (λ (n : ℕ). request_of n stub) s.0 ∙ only_in connection_item _ connection_lawful as_connection stub (replica_set, (connection, (version, flags))) s.1
 only opnum stub (forms.EstablishSession connection content_set) s = ap (λ (n : ℕ). request_of n stub) s.0 ∙ only_in session_item _ session_lawful as_session stub (connection, content_set) s.1
@@ -83,6 +86,7 @@ none : (q : FrsRequest) → all_of {A = FrsRequest} (Err stubs.Opnum) ≡ Ok q �
 none q e = cc
 
 pub found : (opnum : ℕ) (stub : List ℕ) (q : FrsRequest) → AreBytes stub → request_of opnum stub ≡ Ok q → SpellsRequest opnum q stub
+unfolding request_reads
 found opnum stub q are read =
     elim (branch (eqb opnum 0) _ _ q read) [
       | inl of_check ↦ spelled_in check_item _ check_lawful as_check (λ r. SpellsRequest opnum r stub) stub q are (λ t s. (eqb-true opnum 0 of_check.0, s)) of_check.1
@@ -112,6 +116,11 @@ found opnum stub q are read =
         ]
       ]
     ]
+
+-- and has the stated values
+pub read_stated : (opnum : ℕ) (stub : List ℕ) (begin end : Cursor) (q : FrsRequest) → AreBytes stub → begin ≡ start stub → request_reads opnum begin ≡ Ok (q, end) → true ≡ eqb (length end.rest) 0 → IsStatedRequest q
+read_stated opnum stub begin end q are at read done =
+    request_stated opnum stub q (found opnum stub q are (all_done (request_reads opnum (start stub)) q end (ap (request_reads opnum) (sym at) ∙ read) (sym done)))
 
 -- ---- what is written is spelled
 

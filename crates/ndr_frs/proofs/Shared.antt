@@ -60,6 +60,7 @@ interval_lawful =
     (lawful_seen _ _ (λ at t text spells. refl) (padded_lawful 8 ⊗ (guid_lawful ⊗ (number_64_lawful ⊗ number_64_lawful))))
 
 pub update_lawful : IsLawful update_item IsUpdate
+unfolding update_item
 update_lawful =
     lawful_where IsUpdate
     (λ u is. (refl, (tt, (tt, (tt, (is.attributes, (is.fence, (is.clock, (is.created, (is.set, (is.hash, (is.similarity, (is.uid, (is.gvsn, (is.parent, (record { name = is.name; small = is.units }, is.flags))))))))))))))))

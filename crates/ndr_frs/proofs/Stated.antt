@@ -7,7 +7,7 @@ use Rattle.win_order.specs.declared.update.Update.{Update}
 use Rattle.ndr_core.specs.Pointers.{optional}
 use Rattle.ndr_frs.specs.Shared.{bytes_item, intervals_item, updates_item}
 use Rattle.ndr_frs.specs.Requests.{IsStatedRequest, SpellsRequest}
-use Rattle.ndr_frs.specs.Replies.{IsStatedReply, IsStatus, SpellsReply}
+use Rattle.ndr_frs.specs.Replies.{IsStatedReply, IsStatus, SpellsReply, file_item, page_item}
 use Rattle.ndr_frs.specs.declared.reply.FrsReply.{FrsReply}
 use Rattle.ndr_frs.specs.declared.reply.FrsReply.TheVariants as replies
 use Rattle.ndr_frs.specs.declared.request.FrsRequest.{FrsRequest}
@@ -58,6 +58,7 @@ vector_within at (Some v) text s =
     subst (λ (w : List Interval). length w ≤ 65536) (sym (some_is v there.0 there.1)) there.2.1.3.0
 
 pub reply_stated : (opnum : ℕ) (stub : List ℕ) (q : FrsReply) → SpellsReply opnum q stub → IsStatedReply q
+unfolding page_item file_item
 reply_stated opnum stub (replies.CheckConnectivity rc) s = tt
 reply_stated opnum stub (replies.EstablishConnection version flags rc) s = tt
 reply_stated opnum stub (replies.EstablishSession rc) s = tt

@@ -61,3 +61,10 @@ pub written_by : {A : Type 0} (item : Item A) (Fits : A → Type 0) → IsLawful
 written_by item Fits is a fits =
     let w = is.written [] a fits in
     subst (λ (text : List ℕ). item.Spells 0 a text) (sym w.parts) w.spells
+
+abbrev judged : {Q : Type 0} → Bool → Q → ℕ → Result Q StubBad
+judged b q at = cond b (Ok q) (Err (OfItem (Rest at)))
+
+-- what is read to the end is the whole stub
+pub all_done : {Q : Type 0} (read : Result (Q × Cursor) StubBad) (q : Q) (c : Cursor) → read ≡ Ok (q, c) → eqb (length c.rest) 0 ≡ true → all_of read ≡ Ok q
+all_done read q c e is = ap all_of e ∙ ap (λ b. judged b q c.at) is

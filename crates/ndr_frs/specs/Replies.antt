@@ -36,7 +36,7 @@ abbrev pub session_item : Item (ℕ)
 session_item = number w32
 
 -- maximum and updates, count, status, GVSN of the last update, return code
-abbrev pub page_item : Item ((ℕ × List Update) × (ℕ × (ℕ × (ℕ × (ℕ × ℕ)))))
+unfoldable pub page_item : Item ((ℕ × List Update) × (ℕ × (ℕ × (ℕ × (ℕ × ℕ)))))
 page_item = updates_item ⨾ (number w32 ⨾ (status_item ⨾ (guid_item ⨾ (number w64 ⨾ number w32))))
 
 -- return code
@@ -56,7 +56,7 @@ abbrev pub close_item : Item (ContextHandle × ℕ)
 close_item = handle_item ⨾ number w32
 
 -- update, handle, maximum and bytes, count of bytes read, whether it is the end, detail, return code
-abbrev pub file_item : Item (Update × (ContextHandle × ((ℕ × List ℕ) × (ℕ × (ℕ × (ℕ × ℕ))))))
+unfoldable pub file_item : Item (Update × (ContextHandle × ((ℕ × List ℕ) × (ℕ × (ℕ × (ℕ × ℕ))))))
 file_item = update_item ⨾ (handle_item ⨾ (bytes_item ⨾ (number w32 ⨾ (number w32 ⨾ (number w64 ⨾ number w32)))))
 
 -- the value that the fields make
@@ -90,7 +90,7 @@ as_file t = forms.InitializeFileTransferAsync t.0 t.1.0 t.1.1.0.0 t.1.1.0.1 t.1.
 -- ---- reading
 
 -- the reply with this number at a cursor
-abbrev pub reply_reads : ℕ → Cursor → Result (FrsReply × Cursor) StubBad
+unfoldable pub reply_reads : ℕ → Cursor → Result (FrsReply × Cursor) StubBad
 reply_reads opnum c =
     if opnum == 0 then in_stub (made as_check check_item c)
     else (if opnum == 1 then in_stub (made as_connection connection_item c)

@@ -88,7 +88,7 @@ as_file t = forms.InitializeFileTransferAsync t.0 t.1.0 t.1.1.0 t.1.1.1.0 t.1.1.
 -- ---- reading
 
 -- the request with this number at a cursor
-abbrev pub request_reads : ℕ → Cursor → Result (FrsRequest × Cursor) StubBad
+unfoldable pub request_reads : ℕ → Cursor → Result (FrsRequest × Cursor) StubBad
 request_reads opnum c =
     if opnum == 0 then in_stub (made as_check check_item c)
     else (if opnum == 1 then in_stub (made as_connection connection_item c)

@@ -56,7 +56,7 @@ abbrev pub interval_item : Item Interval
 interval_item = seen (λ t. record { db = t.1.0; low = t.1.1.0; high = t.1.1.1 }) (λ i. (tt, (i.db, (i.low, i.high)))) (padded 8 ⨾ (guid_item ⨾ (number w64 ⨾ number w64)))
 
 -- present, name conflict, attributes, fence, clock, time of creation, content set, hash, similarity, UID, GVSN, parent, name, flags
-abbrev pub update_item : Item Update
+unfoldable pub update_item : Item Update
 update_item =
     seen
     (λ t. record { present = t.1.0; name_conflict = t.1.1.0; attributes = t.1.1.1.0; fence = t.1.1.1.1.0; clock = t.1.1.1.1.1.0; created = t.1.1.1.1.1.1.0; set = t.1.1.1.1.1.1.1.0; hash = t.1.1.1.1.1.1.1.1.0; similarity = t.1.1.1.1.1.1.1.1.1.0; uid = t.1.1.1.1.1.1.1.1.1.1.0; gvsn = t.1.1.1.1.1.1.1.1.1.1.1.0; parent = t.1.1.1.1.1.1.1.1.1.1.1.1.0; name = t.1.1.1.1.1.1.1.1.1.1.1.1.1.0; flags = t.1.1.1.1.1.1.1.1.1.1.1.1.1.1 })

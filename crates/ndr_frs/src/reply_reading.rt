@@ -53,6 +53,7 @@ fn take_status(r: &mut Reader) -> Result<u32, NdrBad>
     Err(NdrBad::Value { at })
 }
 
+#[tactic(auto, unfolding(crate::specs::Replies::page_item))]
 fn take_page(alloc: Global, r: &mut Reader) -> Result<FrsReply, NdrError>
     ensures { ReadsBy (λ x. x) (made as_page page_item) result r.old r.new }
 {
@@ -133,6 +134,7 @@ fn take_close(r: &mut Reader) -> Result<FrsReply, NdrError>
     Ok(FrsReply::RdcClose { handle, rc })
 }
 
+#[tactic(auto, unfolding(crate::specs::Replies::file_item))]
 fn take_file(alloc: Global, r: &mut Reader) -> Result<FrsReply, NdrError>
     ensures { ReadsBy (λ x. x) (made as_file file_item) result r.old r.new }
 {
@@ -156,6 +158,7 @@ fn take_file(alloc: Global, r: &mut Reader) -> Result<FrsReply, NdrError>
 }
 
 /// The fields of the reply with this number.
+#[tactic(auto, unfolding(crate::specs::Replies::reply_reads))]
 fn take_reply(alloc: Global, opnum: u16, r: &mut Reader) -> Result<FrsReply, StubError>
     ensures { ReadsOrMemory result (reply_reads opnum r.old) r.new }
 {

@@ -137,6 +137,7 @@ fn take_file(alloc: Global, r: &mut Reader) -> Result<FrsRequest, NdrError>
 }
 
 /// The fields of the request with this number.
+#[tactic(auto, unfolding(crate::specs::Requests::request_reads))]
 fn take_request(alloc: Global, opnum: u16, r: &mut Reader) -> Result<FrsRequest, StubError>
     ensures { ReadsOrMemory result (request_reads opnum r.old) r.new }
 {

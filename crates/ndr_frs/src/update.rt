@@ -22,6 +22,7 @@ impl Wire for UpdateItem {
 
     ghost fits = { λ u. true };
 
+    #[tactic(auto, unfolding(crate::specs::Shared::update_item))]
     fn take(alloc: Global, r: &mut Reader) -> Result<Update, NdrError> {
         r.align(8)?;
         let present = take_flag(r)?;
