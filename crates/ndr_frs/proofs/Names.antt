@@ -1,5 +1,5 @@
 -- Which units are a name, as a test and as a fact.
-use Rattle.std.proofs.Common.{◌≡◌, ◌∙◌, ℕ, zero, suc, ◌+◌, ◌^◌, ◌<◌, ◌≤◌, ◌&&◌, ◌||◌, Bool, true, false, not, eqb, leb, ltb, lt-ltb, List, [], ◌∷◌, get_or, length, refl, sym, ap, arith, All}
+use Rattle.std.proofs.Common.{◌≡◌, ℕ, zero, suc, ◌^◌, ◌<◌, ◌&&◌, Bool, true, false, not, leb, ltb, lt-ltb, List, [], ◌∷◌, get_or, length, refl, arith}
 use Rattle.std.specs.List.{AllByRecursion}
 use Rattle.std.proofs.lemmas.Bool.{leb-true, le-leb, ltb-true, not-true}
 use Rattle.frs_base.specs.Names.{IsName, is_barred}

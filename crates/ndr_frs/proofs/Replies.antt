@@ -1,16 +1,15 @@
 -- Replies keep the laws.
-use Rattle.std.proofs.Common.{◌≡◌, ◌∙◌, ℕ, ◌^◌, ◌<◌, ◌≤◌, ◌==◌, ◌||◌, Bool, true, false, cond, eqb, List, [], ◌∷◌, Option, None, Some, Result, Ok, Err, length, inl, inr, refl, sym, ap, subst, arith, lit<}
-use Rattle.std.specs.Prelude.{◌⊎◌, IfSome}
+use Rattle.std.proofs.Common.{◌≡◌, ◌∙◌, ℕ, ◌^◌, ◌<◌, ◌==◌, ◌||◌, true, eqb, List, [], Option, None, Some, Result, Ok, Err, length, inl, inr, refl, sym, ap, arith}
+use Rattle.std.specs.Prelude.{IfSome}
 use Rattle.std.proofs.lemmas.Bool.{eqb-true}
 use Rattle.version_vector.specs.declared.interval.Interval.{Interval}
 use Rattle.ndr_core.specs.Cursor.{Cursor}
 use Rattle.ndr_core.specs.Items.{AreBytes}
 use Rattle.ndr_core.specs.Laws.{IsLawful}
-use Rattle.ndr_core.proofs.Arrays.{conformant_lawful, lawful_many}
 use Rattle.ndr_core.proofs.Bytes.{number_32_lawful, number_64_lawful}
 use Rattle.ndr_core.proofs.Identifiers.{guid_lawful, handle_lawful}
 use Rattle.ndr_core.proofs.Optional.{optional_lawful}
-use Rattle.ndr_core.proofs.Words.{◌⊗◌, lawful_checked, lawful_fixed, lawful_then, lawful_where}
+use Rattle.ndr_core.proofs.Words.{◌⊗◌, lawful_checked, lawful_where}
 use Rattle.ndr_frs.specs.Stubs.{all_of}
 use Rattle.ndr_frs.specs.declared.refusal.StubBad.{StubBad}
 use Rattle.ndr_frs.specs.declared.refusal.StubBad.TheVariants as stubs

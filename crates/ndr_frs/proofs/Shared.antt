@@ -1,9 +1,8 @@
 -- What several calls share keeps the laws of items.
-use Rattle.std.proofs.Common.{◌≡◌, ◌∙◌, ℕ, zero, suc, ◌+◌, ◌^◌, ◌<◌, ◌≤◌, Bool, true, false, eqb, ltb, lt-ltb, List, length, refl, sym, ap, arith, lit<}
+use Rattle.std.proofs.Common.{◌≡◌, ℕ, zero, suc, ◌^◌, ◌<◌, ◌≤◌, Bool, true, false, eqb, ltb, lt-ltb, List, length, refl, ap, arith, lit<}
 use Rattle.std.specs.List.{AllByRecursion}
 use Rattle.std.proofs.lemmas.Bool.{ltb-true}
 use Rattle.frs_base.specs.Names.{IsName}
-use Rattle.frs_base.specs.declared.sum.Sum.{Sum}
 use Rattle.version_vector.specs.declared.interval.Interval.{Interval}
 use Rattle.win_order.specs.declared.update.Update.{Update}
 use Rattle.ndr_core.specs.Items.{AreBytes}

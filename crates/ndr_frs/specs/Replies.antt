@@ -1,16 +1,15 @@
 -- The replies: their layouts, how they are read and written, and which stubs spell them.
-use Rattle.std.specs.Prelude.{◌≡◌, ◌<◌, ◌≤◌, ◌^◌, ◌==◌, ◌||◌, ◌⊎◌, ℕ, List, [], Option, Result, Ok, Err, IfSome, length, nat_lt, if◌then◌else◌}
+use Rattle.std.specs.Prelude.{◌≡◌, ◌<◌, ◌≤◌, ◌^◌, ◌==◌, ◌||◌, ◌⊎◌, ℕ, List, Option, Result, Err, IfSome, length, if◌then◌else◌}
 use Rattle.std.specs.List.{AllByRecursion}
 use Rattle.std.specs.Int.{w32, w64}
 use Rattle.ndr_core.specs.Cursor.{Cursor}
-use Rattle.ndr_core.specs.Items.{◌⨾◌, AreBytes, Item, checked, fixed, followed, number}
-use Rattle.ndr_core.specs.Arrays.{conformant, many}
+use Rattle.ndr_core.specs.Items.{◌⨾◌, AreBytes, Item, checked, number}
 use Rattle.ndr_core.specs.Identifiers.{IsHandle, guid_item, handle_item}
 use Rattle.ndr_core.specs.Pointers.{optional}
 use Rattle.ndr_core.specs.declared.handle.ContextHandle.{ContextHandle}
 use Rattle.version_vector.specs.declared.interval.Interval.{Interval}
 use Rattle.win_order.specs.declared.update.Update.{Update}
-use Rattle.ndr_frs.specs.Shared.{IsInterval, IsUpdate, below_item, bytes_item, interval_item, intervals_item, update_item, updates_item}
+use Rattle.ndr_frs.specs.Shared.{IsInterval, IsUpdate, below_item, bytes_item, intervals_item, update_item, updates_item}
 use Rattle.ndr_frs.specs.Stubs.{all_of, in_stub, made}
 use Rattle.ndr_frs.specs.declared.refusal.StubBad.{StubBad}
 use Rattle.ndr_frs.specs.declared.refusal.StubBad.TheVariants.{Opnum}

@@ -1,5 +1,5 @@
 -- Whole stubs, and calls that read them.
-use Rattle.std.specs.Prelude.{◌≡◌, ◌==◌, ℕ, List, Result, Ok, Err, length, if◌then◌else◌}
+use Rattle.std.specs.Prelude.{◌≡◌, ◌==◌, Result, Ok, Err, length, if◌then◌else◌}
 use Rattle.ndr_core.specs.Cursor.{Cursor}
 use Rattle.ndr_core.specs.Items.{◌>>=◌, Item}
 use Rattle.ndr_core.specs.declared.refusal.NdrBad.{NdrBad}

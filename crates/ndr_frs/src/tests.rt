@@ -215,6 +215,7 @@ fn sample(alloc: Global) -> Result<Update, NameError> {
         db: database_of(1),
         version: 9,
     };
+    let parent = uid;
     let name = Name::from_units(alloc, &[0x78])?;
     Ok(Update {
         present: true,
@@ -231,7 +232,7 @@ fn sample(alloc: Global) -> Result<Update, NameError> {
             db: database_of(2),
             version: 12,
         },
-        parent: uid,
+        parent,
         name,
         flags: 2,
     })

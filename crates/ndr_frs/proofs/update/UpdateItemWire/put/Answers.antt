@@ -1,7 +1,5 @@
-use Rattle.std.proofs.Common.{ℕ, Bool, List}
 use Rattle.std.specs.Int.{w32, w64}
-use Rattle.frs_base.specs.declared.sum.Sum.{Sum}
-use Rattle.ndr_core.specs.Items.{◌⨾◌, Item, chunk, number, padded}
+use Rattle.ndr_core.specs.Items.{◌⨾◌, chunk, number, padded}
 use Rattle.ndr_core.specs.Identifiers.{guid_item}
 use Rattle.ndr_frs.specs.Shared.{flag_item, gvsn_item, name_item, sum_item, uid_item, update_item}
 use Rattle.ndr_frs.proofs.Written.{behind, last}
