@@ -4,3 +4,7 @@ pub mod Leaves
 pub mod Parts
 pub mod Firsts
 pub mod Ranges
+pub mod Slots
+pub mod Tables
+pub mod Changes
+pub mod Shares

@@ -5,13 +5,19 @@
 #![tactic(auto)]
 
 mod beyond;
+mod group;
 mod leaf;
 mod map;
 mod middle;
+mod node;
+mod part;
 mod root;
 mod row;
+mod table;
+mod whole;
 
 pub use map::Pmap;
+pub use table::Table;
 
 #[cfg(test)]
 mod tests;
