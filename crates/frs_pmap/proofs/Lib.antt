@@ -4,6 +4,8 @@ pub mod Leaves
 pub mod Parts
 pub mod Firsts
 pub mod Ranges
+pub mod Joins
+pub mod Counts
 pub mod Slots
 pub mod Tables
 pub mod Changes

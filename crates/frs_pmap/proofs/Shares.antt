@@ -1,6 +1,7 @@
 -- What is kept of shared rows, and what they are rows of.
 use Rattle.std.proofs.Common.{◌≡◌, ◌∙◌, ◌+◌, ◌<◌, ℕ, List, [], ◌∷◌, ◌++◌, Some, None, refl, sym, ap, subst, suc, zero, length, take, set, map, arith, Vec}
 use Rattle.std.specs.Prelude.{slice_get}
+use Rattle.std.proofs.lemmas.List.{length-map}
 use Rattle.std.specs.List.{AllByRecursion, flat_map}
 use Rattle.std.specs.declared.alloc.Global.{Global}
 use Rattle.std.specs.declared.sync.Arc.{Arc}
@@ -37,9 +38,10 @@ module _ {K V : Type 0} where
       → (part_rows (set xs i y) ≡ part_rows xs) × AreParts (set xs i y)
   part_kept xs i x y got k e p a =
       let h : PartFits x = at_one (PartFits {K = K} {V = V}) xs i x got a in
-      let same = part_same x y k e in
-      (map_set (λ (c : K × PartOf K V). (c.0, seen c.1.items.items)) xs i x y got same,
-       all_set (PartFits {K = K} {V = V}) xs i y a (subst (λ (z : K × List (K × V)). HasHead z.0 z.1) (sym same) h.0, p))
+      let same = part_same x y k e in (
+        map_set (λ (c : K × PartOf K V). (c.0, seen c.1.items.items)) xs i x y got same,
+        all_set (PartFits {K = K} {V = V}) xs i y a (subst (λ (z : K × List (K × V)). HasHead z.0 z.1) (sym same) h.0, p),
+      )
 
   rows_head : (k : K) (ps : List (K × PartOf K V)) → HasHead k (entries_in ps) → AreParts ps → HasHead k (part_rows ps)
   rows_head k [] h a = h
@@ -71,9 +73,10 @@ module _ {K V : Type 0} where
   group_kept xs i x y got k e p a =
       let h : GroupFits x = at_one (GroupFits {K = K} {V = V}) xs i x got a in
       let entries : entries_in y.1.items.items ≡ entries_in x.1.items.items = part_entries_kept x.1.items.items y.1.items.items e in
-      let head : HasHead y.0 (entries_in y.1.items.items) = subst (λ (z : K). HasHead z (entries_in y.1.items.items)) (sym k) (subst (λ (l : List (K × V)). HasHead x.0 l) (sym entries) h.0) in
-      (map_set (λ (c : K × GroupOf K V). (c.0, part_rows c.1.items.items)) xs i x y got (group_same x y k e),
-       all_set (GroupFits {K = K} {V = V}) xs i y a (head, p))
+      let head : HasHead y.0 (entries_in y.1.items.items) = subst (λ (z : K). HasHead z (entries_in y.1.items.items)) (sym k) (subst (λ (l : List (K × V)). HasHead x.0 l) (sym entries) h.0) in (
+        map_set (λ (c : K × GroupOf K V). (c.0, part_rows c.1.items.items)) xs i x y got (group_same x y k e),
+        all_set (GroupFits {K = K} {V = V}) xs i y a (head, p),
+      )
 
   rows_headed : (ps : List (K × PartOf K V)) → AreParts ps → AreHeaded (part_rows ps)
   rows_headed [] a = tt
@@ -86,6 +89,11 @@ module _ {K V : Type 0} where
   groups_middles : (gs : List (K × GroupOf K V)) → AreGroups gs → AllByRecursion (λ c. AreHeaded c.1) (group_rows gs)
   groups_middles [] a = tt
   groups_middles (g ∷ gs) a = (rows_headed g.1.items.items a.0.1.parts, groups_middles gs a.1)
+
+  pub rows_len : (gs hs : List (K × GroupOf K V)) → group_rows hs ≡ group_rows gs → length hs ≡ length gs
+  rows_len gs hs e =
+      let row : K × GroupOf K V → K × List (K × List (K × V)) = λ g. (g.0, part_rows g.1.items.items) in
+      sym (length-map hs row) ∙ ap length e ∙ length-map gs row
 
   -- the rows of a table are those of a map
   pub rows_tree : {cmp : K → K → Ordering} (w : RootOf K V) → IsTable cmp w → IsTree cmp (group_rows w.items.items)

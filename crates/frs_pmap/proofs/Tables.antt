@@ -71,3 +71,12 @@ part_heads (c ∷ cs) a = (a.0.0, part_heads cs a.1)
 pub group_heads : {K V : Type 0} (gs : List (K × GroupOf K V)) → AreGroups gs → AllByRecursion (λ g. HasHead g.0 (entries_in g.1.items.items)) gs
 group_heads [] a = tt
 group_heads (g ∷ gs) a = (a.0.0, group_heads gs a.1)
+
+-- what has a first entry has parts, and groups
+pub parts_some : {K V : Type 0} (k : K) (ps : List (K × PartOf K V)) → HasHead k (entries_in ps) → 0 < length ps
+parts_some k [] h = absurd h
+parts_some k (p ∷ ps) h = omega arith
+
+pub groups_some : {K V : Type 0} (k : K) (gs : List (K × GroupOf K V)) → HasHead k (entries_under gs) → 0 < length gs
+groups_some k [] h = absurd h
+groups_some k (g ∷ gs) h = omega arith

@@ -41,6 +41,10 @@ Remembers shared x = MatchOption shared (Unit {0}) (λ row. arc_value row ≡ x)
 abbrev pub PartOf : Type 0 → Type 0 → Type 0
 PartOf K V = Node K (Arc V Global) (List (K × V))
 
+-- the entries of a part
+abbrev pub in_part : {K V : Type 0} → PartOf K V → List (K × V)
+in_part part = seen part.items.items
+
 -- the entries of parts
 abbrev pub entries_in : {K V : Type 0} → List (K × PartOf K V) → List (K × V)
 entries_in cs = flat_map (λ c. seen c.1.items.items) cs
@@ -63,6 +67,10 @@ AreParts cs = AllByRecursion (λ c. HasHead c.0 (seen c.1.items.items) × IsPart
 -- parts in a node
 abbrev pub GroupOf : Type 0 → Type 0 → Type 0
 GroupOf K V = Node K (PartOf K V) (List (K × List (K × V)))
+
+-- the entries of a group
+abbrev pub in_group : {K V : Type 0} → GroupOf K V → List (K × V)
+in_group group = entries_in group.items.items
 
 -- the entries of groups
 abbrev pub entries_under : {K V : Type 0} → List (K × GroupOf K V) → List (K × V)
@@ -87,6 +95,10 @@ AreGroups gs = AllByRecursion (λ g. HasHead g.0 (entries_in g.1.items.items) ×
 -- groups in a node
 abbrev pub RootOf : Type 0 → Type 0 → Type 0
 RootOf K V = Node K (GroupOf K V) (List (K × List (K × List (K × V))))
+
+-- the entries of the whole
+abbrev pub in_whole : {K V : Type 0} → RootOf K V → List (K × V)
+in_whole whole = entries_under whole.items.items
 
 -- the entries rise through groups, and a shared row that is kept of the whole has them
 pub record IsTable {K V : Type 0} (cmp : K → K → Ordering) (root : RootOf K V) : Type 0 where

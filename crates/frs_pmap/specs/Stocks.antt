@@ -19,13 +19,21 @@ abbrev pub kept_in : {K V : Type 0} → Option (RootOf K V) → List (K × V)
 kept_in None = []
 kept_in (Some whole) = entries_under whole.items.items
 
+-- what is kept is in order
+abbrev pub IsKept : {K V : Type 0} → (K → K → Ordering) → Option (RootOf K V) → Type 0
+IsKept cmp whole = MatchOption whole (Unit {0}) (IsTable cmp)
+
+-- there is room for a group more
+abbrev pub HasPlace : {K V : Type 0} → Option (RootOf K V) → Type 0
+HasPlace whole = MatchOption whole ⊥ (λ w. length w.items.items < vec_capacity w.items)
+
 -- a value may be put: there is room for a group, and memory for a part and for a group
 abbrev pub IsReady : {K V : Type 0} → Option (RootOf K V) → Spares K V → Type 0
-IsReady whole spares = MatchOption whole ⊥ (λ w. length w.items.items < vec_capacity w.items) × AreGiven spares
+IsReady whole spares = HasPlace whole × AreGiven spares
 
 -- the entries are in order, and where there is room a value may be put
 pub record IsStocked {K V : Type 0} (cmp : K → K → Ordering) (whole : Option (RootOf K V)) (spares : Spares K V) (room : ℕ) : Type 0 where
-  pub table : MatchOption whole (Unit {0}) (IsTable cmp)
+  pub table : IsKept cmp whole
   pub spare : AreSpare spares
   pub one : room ≤ 1
   pub ready : 0 < room → IsReady whole spares

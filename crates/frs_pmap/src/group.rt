@@ -2,15 +2,14 @@
 ghost use Rattle.std.specs.Prelude.{◌≡◌, ◌<◌, ◌≤◌, ◌+◌, ◌++◌, ◌∷◌, [], None, true, false, IfOk, OnOk, IsSome, length, option_copied, option_to_list, vec_capacity};
 ghost use Rattle.std.specs.Arc.{arc_value};
 ghost use Rattle.std.specs.List.{AllByRecursion};
-ghost use Rattle.frs_pmap.specs.Entries.{IsRising, cut_at, put_at, seen, value_at};
+ghost use Rattle.frs_pmap.specs.Entries.{IsRising, cut_at, put_at, value_at};
 ghost use Rattle.frs_pmap.specs.Trees.{HasHead};
-ghost use Rattle.frs_pmap.specs.Nodes.{AreParts, IsGroup, IsPart, IsSpare, entries_in, part_rows};
+ghost use Rattle.frs_pmap.specs.Nodes.{AreParts, IsGroup, IsPart, IsSpare, entries_in, in_group, in_part, part_rows};
 
 use crate::node::{Node, follow, rekey, settle};
 use crate::part::{Part, part_cut, part_get, part_put, part_share};
 use crate::row::{Middle, Row};
 use std::alloc::{AllocError, Global};
-
 use std::sync::Arc;
 
 /// Entries in nodes of a node.
@@ -24,10 +23,11 @@ fn slot_put<K: Ord + Copy, V: Drop>(
     spare: &mut Option<Vec<(K, Arc<V>)>>,
 ) -> Option<(K, Part<K, V>)>
     requires part { IsPart slot.old.1 }
-    requires rising { IsRising K.cmp (seen slot.old.1.items.items) }
+    requires rising { IsRising K.cmp (in_part slot.old.1) }
     requires given { IsSome spare.old }
     requires spare { IsSpare spare.old }
-    ensures put { entries_in (slot.new ∷ option_to_list result) ≡ put_at K.cmp key (arc_value value) (seen slot.old.1.items.items) }
+    ensures put { entries_in (slot.new ∷ option_to_list result)
+        ≡ put_at K.cmp key (arc_value value) (in_part slot.old.1) }
     ensures parts { AreParts (slot.new ∷ option_to_list result) }
     ensures spare { IsSpare spare.new }
 {
@@ -42,13 +42,13 @@ pub(crate) fn group_put<K: Ord + Copy, V: Drop>(
     value: Arc<V>,
     spare: &mut Option<Vec<(K, Arc<V>)>>,
 )
-    requires rising { IsRising K.cmp (entries_in group.old.items.items) }
+    requires rising { IsRising K.cmp (in_group group.old) }
     requires parts { AreParts group.old.items.items }
     requires some { 0 < length group.old.items.items }
     requires room { length group.old.items.items < vec_capacity group.old.items }
     requires given { IsSome spare.old }
     requires spare { IsSpare spare.old }
-    ensures put { entries_in group.new.items.items ≡ put_at K.cmp key (arc_value value) (entries_in group.old.items.items) }
+    ensures put { in_group group.new ≡ put_at K.cmp key (arc_value value) (in_group group.old) }
     ensures parts { AreParts group.new.items.items }
     ensures some { 0 < length group.new.items.items }
     ensures most { length group.new.items.items ≤ length group.old.items.items + 1 }
@@ -65,10 +65,10 @@ pub(crate) fn group_put<K: Ord + Copy, V: Drop>(
 /// Takes the entry of a key out of a part, and tells whether it has others.
 fn slot_cut<K: Ord + Copy, V: Drop>(slot: &mut (K, Part<K, V>), key: &K) -> bool
     requires part { IsPart slot.old.1 }
-    requires rising { IsRising K.cmp (seen slot.old.1.items.items) }
-    ensures cut { seen slot.new.1.items.items ≡ cut_at K.cmp key.now (seen slot.old.1.items.items) }
+    requires rising { IsRising K.cmp (in_part slot.old.1) }
+    ensures cut { in_part slot.new.1 ≡ cut_at K.cmp key.now (in_part slot.old.1) }
     ensures part { IsPart slot.new.1 }
-    ensures kept { result ≡ true → HasHead slot.new.0 (seen slot.new.1.items.items) }
+    ensures kept { result ≡ true → HasHead slot.new.0 (in_part slot.new.1) }
     ensures empty { result ≡ false → slot.new.1.items.items ≡ [] }
 {
     part_cut(&mut slot.1, key);
@@ -77,10 +77,10 @@ fn slot_cut<K: Ord + Copy, V: Drop>(slot: &mut (K, Part<K, V>), key: &K) -> bool
 
 /// Takes the entry of a key away.
 pub(crate) fn group_cut<K: Ord + Copy, V: Drop>(group: &mut Group<K, V>, key: &K)
-    requires rising { IsRising K.cmp (entries_in group.old.items.items) }
+    requires rising { IsRising K.cmp (in_group group.old) }
     requires parts { AreParts group.old.items.items }
     requires some { 0 < length group.old.items.items }
-    ensures cut { entries_in group.new.items.items ≡ cut_at K.cmp key.now (entries_in group.old.items.items) }
+    ensures cut { in_group group.new ≡ cut_at K.cmp key.now (in_group group.old) }
     ensures parts { AreParts group.new.items.items }
     ensures most { length group.new.items.items ≤ length group.old.items.items }
     ensures capacity { vec_capacity group.new.items ≡ vec_capacity group.old.items }
@@ -99,10 +99,10 @@ pub(crate) fn group_get<'a, K: Ord + Copy, V: Drop>(
     group: &'a Group<K, V>,
     key: &K,
 ) -> Option<&'a V>
-    requires rising { IsRising K.cmp (entries_in group.now.items.items) }
+    requires rising { IsRising K.cmp (in_group group.now) }
     requires parts { AreParts group.now.items.items }
     requires some { 0 < length group.now.items.items }
-    ensures { option_copied result ≡ value_at K.cmp key.now (entries_in group.now.items.items) }
+    ensures { option_copied result ≡ value_at K.cmp key.now (in_group group.now) }
 {
     part_get(&group.items[group.part_of(key)].1, key)
 }
@@ -117,7 +117,7 @@ fn slot_share<K: Ord + Copy, V: Drop>(
     ensures key { slot.new.0 ≡ slot.old.0 }
     ensures items { slot.new.1.items ≡ slot.old.1.items }
     ensures part { IsPart slot.new.1 }
-    ensures row { OnOk result (row.new ≡ row.old ++ (slot.old.0, seen slot.old.1.items.items) ∷ []) }
+    ensures row { OnOk result (row.new ≡ row.old ++ (slot.old.0, in_part slot.old.1) ∷ []) }
 {
     let part = part_share(alloc, &mut slot.1)?;
     row.push_shared(slot.0, part)

@@ -1,11 +1,12 @@
 // Keys with what stands under them, changed in their place.
-ghost use Rattle.std.specs.Prelude.{◌≡◌, ◌<◌, ◌≤◌, ◌+◌, ◌-◌, ◌++◌, ◌∷◌, [], None, insert, length, take, drop, option_to_list, true, false, vec_capacity, vec_len, IsSome};
+ghost use Rattle.std.specs.Prelude.{◌≡◌, ◌<◌, ◌≤◌, ◌+◌, ◌-◌, ◌++◌, ◌∷◌, [], None, insert, length, take, drop, option_to_list, true, false, vec_capacity, vec_len, IsSome, OnOk};
 ghost use Rattle.std.specs.List.{AllByRecursion, prefix_len};
 ghost use Rattle.frs_pmap.specs.Entries.{IsRising, is_upto};
 ghost use Rattle.frs_pmap.specs.Nodes.{IsFresh, IsSpare, held_by};
 ghost use Rattle.frs_pmap.specs.Trees.{HasHead};
 
 use crate::row::{MOST, place};
+use std::alloc::{AllocError, Global};
 use std::sync::Arc;
 
 /// Keys with what stands under each, changed in their place, and a shared row of just the same,
@@ -112,11 +113,27 @@ pub(crate) fn settle<K: Ord + Copy, T: Drop, S: Drop>(
     Some((key, back))
 }
 
+/// Takes spare memory for a whole node, where there is none.
+pub(crate) fn reserve_spare<X: Drop>(
+    alloc: Global,
+    spare: &mut Option<Vec<X>>,
+) -> Result<(), AllocError>
+    requires { IsSpare spare.old }
+    ensures given { OnOk result (IsSome spare.new) }
+    ensures spare { IsSpare spare.new }
+{
+    if spare.is_none() {
+        *spare = Some(Vec::with_capacity(alloc, MOST)?);
+    }
+    Ok(())
+}
+
 /// Puts what an item is to be followed by behind it.
 pub(crate) fn follow<T: Drop>(items: &mut Vec<T>, at: usize, next: Option<T>)
     requires within { at < vec_len items.old }
     requires room { vec_len items.old < vec_capacity items.old }
-    ensures items { items.new.items ≡ take (at + 1) items.old.items ++ (option_to_list next ++ drop (at + 1) items.old.items) }
+    ensures items { items.new.items
+        ≡ take (at + 1) items.old.items ++ (option_to_list next ++ drop (at + 1) items.old.items) }
     ensures len { vec_len items.new ≤ vec_len items.old + 1 }
     ensures capacity { vec_capacity items.old ≤ vec_capacity items.new }
 {

@@ -1,8 +1,8 @@
 // Entries in one node.
 ghost use Rattle.std.specs.Prelude.{◌≡◌, ◌<◌, ◌≤◌, ◌+◌, None, IfOk, length, option_copied, vec_capacity};
 ghost use Rattle.std.specs.Arc.{arc_value};
-ghost use Rattle.frs_pmap.specs.Entries.{IsRising, cut_at, put_at, seen, value_at};
-ghost use Rattle.frs_pmap.specs.Nodes.{IsPart};
+ghost use Rattle.frs_pmap.specs.Entries.{IsRising, cut_at, put_at, value_at};
+ghost use Rattle.frs_pmap.specs.Nodes.{IsPart, in_part};
 
 use crate::node::{Node, insert_reserved};
 use crate::row::{Leaf, Row, place};
@@ -14,15 +14,15 @@ pub(crate) type Part<K, V> = Node<K, Arc<V>, Leaf<K, V>>;
 
 /// Puts a value at a key, where there is room for an entry.
 pub(crate) fn part_put<K: Ord + Copy, V: Drop>(part: &mut Part<K, V>, key: K, value: Arc<V>)
-    requires rising { IsRising K.cmp (seen part.old.items.items) }
+    requires rising { IsRising K.cmp (in_part part.old) }
     requires room { length part.old.items.items < vec_capacity part.old.items }
-    ensures put { seen part.new.items.items ≡ put_at K.cmp key (arc_value value) (seen part.old.items.items) }
+    ensures put { in_part part.new ≡ put_at K.cmp key (arc_value value) (in_part part.old) }
     ensures some { 0 < length part.new.items.items }
     ensures most { length part.new.items.items ≤ length part.old.items.items + 1 }
     ensures capacity { vec_capacity part.old.items ≤ vec_capacity part.new.items }
     ensures forgot { part.new.shared ≡ None }
 {
-    part.shared = None;
+    part.shared = None; // the next share makes another
     let at = place(part.items.as_slice(), &key);
     if at > 0 {
         let found = part.items[at - 1].0;
@@ -36,8 +36,8 @@ pub(crate) fn part_put<K: Ord + Copy, V: Drop>(part: &mut Part<K, V>, key: K, va
 
 /// Takes the entry of a key away.
 pub(crate) fn part_cut<K: Ord + Copy, V: Drop>(part: &mut Part<K, V>, key: &K)
-    requires { IsRising K.cmp (seen part.old.items.items) }
-    ensures cut { seen part.new.items.items ≡ cut_at K.cmp key.now (seen part.old.items.items) }
+    requires { IsRising K.cmp (in_part part.old) }
+    ensures cut { in_part part.new ≡ cut_at K.cmp key.now (in_part part.old) }
     ensures most { length part.new.items.items ≤ length part.old.items.items }
     ensures capacity { vec_capacity part.new.items ≡ vec_capacity part.old.items }
     ensures forgot { part.new.shared ≡ None }
@@ -54,8 +54,8 @@ pub(crate) fn part_cut<K: Ord + Copy, V: Drop>(part: &mut Part<K, V>, key: &K)
 
 /// The value at a key.
 pub(crate) fn part_get<'a, K: Ord + Copy, V: Drop>(part: &'a Part<K, V>, key: &K) -> Option<&'a V>
-    requires { IsRising K.cmp (seen part.now.items.items) }
-    ensures { option_copied result ≡ value_at K.cmp key.now (seen part.now.items.items) }
+    requires { IsRising K.cmp (in_part part.now) }
+    ensures { option_copied result ≡ value_at K.cmp key.now (in_part part.now) }
 {
     let at = place(part.items.as_slice(), key);
     if at > 0 {
@@ -75,7 +75,7 @@ pub(crate) fn part_share<K: Ord + Copy, V: Drop>(
     requires { IsPart part.old }
     ensures items { part.new.items ≡ part.old.items }
     ensures part { IsPart part.new }
-    ensures row { IfOk result (λ row. arc_value row ≡ seen part.old.items.items) }
+    ensures row { IfOk result (λ row. arc_value row ≡ in_part part.old) }
 {
     if let Some(row) = &part.shared {
         return Arc::try_clone(row);

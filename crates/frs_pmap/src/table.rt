@@ -1,15 +1,31 @@
 // Tables that hand out maps.
-ghost use Rattle.std.specs.Prelude.{◌≡◌, ◌<◌, ◌≤◌, ◌+◌, [], IfOk, OnOk, option_copied};
+ghost use Rattle.std.specs.Prelude.{◌≡◌, ◌<◌, ◌≤◌, ◌+◌, [], IfOk, OnOk, length, option_copied, vec_capacity};
+ghost use Rattle.frs_pmap.specs.Nodes.{IsTable, in_whole};
 ghost use Rattle.std.specs.Arc.{arc_value};
 ghost use Rattle.frs_pmap.specs.Entries.{IsRising, cut_at, put_at, value_at};
 
 use crate::Pmap;
-use crate::node::Node;
-use crate::row::MOST;
-use crate::whole::{Spares, Whole, whole_cut, whole_get, whole_put, whole_share};
+use crate::node::reserve_spare;
+use crate::whole::{Spares, Whole, reserve_whole, whole_cut, whole_get, whole_put, whole_share};
 use std::alloc::{AllocError, Global};
 use std::marker::Model;
 use std::sync::Arc;
+
+/// A map of the same entries.
+fn whole_map<K: Ord + Copy, V: Drop>(
+    alloc: Global,
+    whole: &mut Whole<K, V>,
+) -> Result<Pmap<K, V>, AllocError>
+    requires { IsTable K.cmp whole.old }
+    ensures same { in_whole whole.new ≡ in_whole whole.old }
+    ensures table { IsTable K.cmp whole.new }
+    ensures len { length whole.new.items.items ≡ length whole.old.items.items }
+    ensures capacity { vec_capacity whole.new.items ≡ vec_capacity whole.old.items }
+    ensures map { IfOk result (λ map. map ≡ in_whole whole.old) }
+{
+    let root = whole_share(alloc, whole)?;
+    Ok(Pmap::of(root))
+}
 
 /// A finite map that is changed in its place, in memory that was reserved, and that hands out its
 /// entries as a [`Pmap`] for the work of what changed since it last did.
@@ -60,21 +76,12 @@ impl<K: Ord + Copy, V: Drop> Table<K, V> {
         ensures ok { OnOk result (self.new.room ≡ 1) }
         ensures room { self.old.room ≤ self.new.room }
     {
-        if self.spares.part.is_none() {
-            self.spares.part = Some(Vec::with_capacity(alloc, MOST)?);
+        if self.room > 0 {
+            return Ok(());
         }
-        if self.spares.group.is_none() {
-            self.spares.group = Some(Vec::with_capacity(alloc, MOST)?);
-        }
-        match &mut self.whole {
-            Some(whole) => whole.items.reserve(1)?,
-            None => {
-                self.whole = Some(Node {
-                    items: Vec::with_capacity(alloc, 1)?,
-                    shared: None,
-                });
-            }
-        }
+        reserve_spare(alloc, &mut self.spares.part)?;
+        reserve_spare(alloc, &mut self.spares.group)?;
+        reserve_whole(alloc, &mut self.whole)?;
         self.room = 1;
         Ok(())
     }
@@ -116,14 +123,12 @@ impl<K: Ord + Copy, V: Drop> Table<K, V> {
     /// A map of the entries, which no later change reaches. The entries stay, also after an error.
     pub fn share(&mut self, alloc: Global) -> Result<Pmap<K, V>, AllocError>
         ensures map { IfOk result (λ map. map ≡ self.old.entries) }
-        ensures same { self.new ≡ self.old }
+        ensures same { self.new.entries ≡ self.old.entries }
+        ensures room { self.new.room ≡ self.old.room }
     {
         match &mut self.whole {
             None => Ok(Pmap::empty()),
-            Some(whole) => {
-                let root = whole_share(alloc, whole)?;
-                Ok(Pmap::of(root))
-            }
+            Some(whole) => whole_map(alloc, whole),
         }
     }
 }

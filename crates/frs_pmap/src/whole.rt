@@ -3,7 +3,8 @@ ghost use Rattle.std.specs.Prelude.{◌≡◌, ◌<◌, ◌≤◌, ◌+◌, ◌+
 ghost use Rattle.std.specs.Arc.{arc_value};
 ghost use Rattle.frs_pmap.specs.Entries.{IsRising, cut_at, put_at, value_at};
 ghost use Rattle.frs_pmap.specs.Trees.{HasHead};
-ghost use Rattle.frs_pmap.specs.Nodes.{AreGiven, AreGroups, AreSpare, IsGroup, IsTable, entries_in, entries_under, group_rows, part_rows};
+ghost use Rattle.frs_pmap.specs.Stocks.{HasPlace, IsKept, kept_in};
+ghost use Rattle.frs_pmap.specs.Nodes.{AreGiven, AreGroups, AreSpare, IsGroup, IsTable, entries_under, group_rows, in_group, in_whole, part_rows};
 
 use crate::group::{Group, group_cut, group_get, group_put, group_share};
 use crate::node::{Node, follow, rekey, settle};
@@ -23,6 +24,29 @@ pub(crate) struct Spares<K, V> {
     pub(crate) group: Option<Vec<(K, Part<K, V>)>>,
 }
 
+/// Takes memory for a group more.
+pub(crate) fn reserve_whole<K: Ord + Copy, V: Drop>(
+    alloc: Global,
+    whole: &mut Option<Whole<K, V>>,
+) -> Result<(), AllocError>
+    requires { IsKept K.cmp whole.old }
+    ensures same { kept_in whole.new ≡ kept_in whole.old }
+    ensures kept { IsKept K.cmp whole.new }
+    ensures room { OnOk result (HasPlace whole.new) }
+{
+    match whole {
+        Some(whole) => whole.items.reserve(1)?,
+        None => {
+            let items = Vec::with_capacity(alloc, 1)?;
+            *whole = Some(Node {
+                items,
+                shared: None,
+            });
+        }
+    }
+    Ok(())
+}
+
 /// Puts a value at a key in a group: what the group is to be followed by.
 fn slot_put<K: Ord + Copy, V: Drop>(
     slot: &mut (K, Group<K, V>),
@@ -32,10 +56,11 @@ fn slot_put<K: Ord + Copy, V: Drop>(
 ) -> Option<(K, Group<K, V>)>
     requires group { IsGroup slot.old.1 }
     requires some { 0 < length slot.old.1.items.items }
-    requires rising { IsRising K.cmp (entries_in slot.old.1.items.items) }
+    requires rising { IsRising K.cmp (in_group slot.old.1) }
     requires given { AreGiven spares.old }
     requires spare { AreSpare spares.old }
-    ensures put { entries_under (slot.new ∷ option_to_list result) ≡ put_at K.cmp key (arc_value value) (entries_in slot.old.1.items.items) }
+    ensures put { entries_under (slot.new ∷ option_to_list result)
+        ≡ put_at K.cmp key (arc_value value) (in_group slot.old.1) }
     ensures groups { AreGroups (slot.new ∷ option_to_list result) }
     ensures spare { AreSpare spares.new }
 {
@@ -55,7 +80,7 @@ fn whole_begin<K: Ord + Copy, V: Drop>(
     requires forgot { whole.old.shared ≡ None }
     requires given { AreGiven spares.old }
     requires spare { AreSpare spares.old }
-    ensures put { entries_under whole.new.items.items ≡ (key, arc_value value) ∷ [] }
+    ensures put { in_whole whole.new ≡ (key, arc_value value) ∷ [] }
     ensures table { IsTable K.cmp whole.new }
     ensures spare { AreSpare spares.new }
 {
@@ -86,7 +111,7 @@ pub(crate) fn whole_put<K: Ord + Copy, V: Drop>(
     requires room { length whole.old.items.items < vec_capacity whole.old.items }
     requires given { AreGiven spares.old }
     requires spare { AreSpare spares.old }
-    ensures put { entries_under whole.new.items.items ≡ put_at K.cmp key (arc_value value) (entries_under whole.old.items.items) }
+    ensures put { in_whole whole.new ≡ put_at K.cmp key (arc_value value) (in_whole whole.old) }
     ensures table { IsTable K.cmp whole.new }
     ensures spare { AreSpare spares.new }
 {
@@ -104,10 +129,10 @@ pub(crate) fn whole_put<K: Ord + Copy, V: Drop>(
 fn slot_cut<K: Ord + Copy, V: Drop>(slot: &mut (K, Group<K, V>), key: &K) -> bool
     requires group { IsGroup slot.old.1 }
     requires some { 0 < length slot.old.1.items.items }
-    requires rising { IsRising K.cmp (entries_in slot.old.1.items.items) }
-    ensures cut { entries_in slot.new.1.items.items ≡ cut_at K.cmp key.now (entries_in slot.old.1.items.items) }
+    requires rising { IsRising K.cmp (in_group slot.old.1) }
+    ensures cut { in_group slot.new.1 ≡ cut_at K.cmp key.now (in_group slot.old.1) }
     ensures group { IsGroup slot.new.1 }
-    ensures kept { result ≡ true → HasHead slot.new.0 (entries_in slot.new.1.items.items) }
+    ensures kept { result ≡ true → HasHead slot.new.0 (in_group slot.new.1) }
     ensures empty { result ≡ false → slot.new.1.items.items ≡ [] }
 {
     group_cut(&mut slot.1, key);
@@ -117,7 +142,7 @@ fn slot_cut<K: Ord + Copy, V: Drop>(slot: &mut (K, Group<K, V>), key: &K) -> boo
 /// Takes the entry of a key away.
 pub(crate) fn whole_cut<K: Ord + Copy, V: Drop>(whole: &mut Whole<K, V>, key: &K)
     requires { IsTable K.cmp whole.old }
-    ensures cut { entries_under whole.new.items.items ≡ cut_at K.cmp key.now (entries_under whole.old.items.items) }
+    ensures cut { in_whole whole.new ≡ cut_at K.cmp key.now (in_whole whole.old) }
     ensures table { IsTable K.cmp whole.new }
     ensures most { length whole.new.items.items ≤ length whole.old.items.items }
     ensures capacity { vec_capacity whole.new.items ≡ vec_capacity whole.old.items }
@@ -139,7 +164,7 @@ pub(crate) fn whole_get<'a, K: Ord + Copy, V: Drop>(
     key: &K,
 ) -> Option<&'a V>
     requires { IsTable K.cmp whole.now }
-    ensures { option_copied result ≡ value_at K.cmp key.now (entries_under whole.now.items.items) }
+    ensures { option_copied result ≡ value_at K.cmp key.now (in_whole whole.now) }
 {
     if whole.items.is_empty() {
         return None;
@@ -157,7 +182,8 @@ fn slot_share<K: Ord + Copy, V: Drop>(
     ensures key { slot.new.0 ≡ slot.old.0 }
     ensures rows { part_rows slot.new.1.items.items ≡ part_rows slot.old.1.items.items }
     ensures group { IsGroup slot.new.1 }
-    ensures row { OnOk result (row.new ≡ row.old ++ (slot.old.0, part_rows slot.old.1.items.items) ∷ []) }
+    ensures row { OnOk result
+        (row.new ≡ row.old ++ (slot.old.0, part_rows slot.old.1.items.items) ∷ []) }
 {
     let group = group_share(alloc, &mut slot.1)?;
     row.push_shared(slot.0, group)

@@ -33,7 +33,7 @@ returns-then-slot_cut-clause-parts g c =
     let at = c.part_of-at.result in
     let y = c.slot_cut.new.slot in
     all_joined (PartFits {K = g.row.K.Denot} {V = g.row.V.Denot}) cs (y ∷ []) (set cs at y) at c.requires.parts ((c.slot_cut.ensures.kept c.if-slot_cut.true, c.slot_cut.ensures.part), tt)
-        (changed cs at y c.part_of-at.ensures.within)
+    (changed cs at y c.part_of-at.ensures.within)
 
 pub returns-clause-cut : goal.returns-clause-cut
 returns-clause-cut g c =
@@ -44,7 +44,7 @@ returns-clause-cut g c =
     let got = slice_get_read cs (length cs) at x refl c.part_of-at.ensures.within c.index_mut.ensures.value in
     let b = part_at g.met.K.Ord.total c.args.key.now cs at x c.requires.rising c.requires.parts c.part_of-at.ensures.part got in
     parts_cut g.met.K.Ord.total c.args.key.now cs [] c.remove.new.self.items at x b (c.remove.ensures.items ∙ taken_out cs at y c.part_of-at.ensures.within)
-        (sym (ap seen (c.slot_cut.ensures.empty c.if-slot_cut.false)) ∙ c.slot_cut.ensures.cut)
+    (sym (ap seen (c.slot_cut.ensures.empty c.if-slot_cut.false)) ∙ c.slot_cut.ensures.cut)
 
 pub returns-clause-parts : goal.returns-clause-parts
 returns-clause-parts g c =

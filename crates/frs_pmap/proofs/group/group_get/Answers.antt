@@ -22,4 +22,4 @@ returns g c =
     let x = c.index.result.now in
     let got = slice_get_read cs (length cs) c.part_of.result x refl c.part_of.ensures.within c.index.ensures in
     c.part_get.ensures ∙ sym (get_part g.met.K.Ord.total (seen_in {K = g.row.K.Denot} {V = g.row.V.Denot}) c.args.key.now cs c.part_of.result x
-        (part_at g.met.K.Ord.total c.args.key.now cs c.part_of.result x c.requires.rising c.requires.parts c.part_of.ensures.part got))
+    (part_at g.met.K.Ord.total c.args.key.now cs c.part_of.result x c.requires.rising c.requires.parts c.part_of.ensures.part got))

@@ -26,7 +26,7 @@ returns-clause-put g c =
     let got = slice_get_read cs (length cs) at x refl c.part_of-at.ensures.within c.index_mut.ensures.value in
     let b = part_at g.met.K.Ord.total c.args.key cs at x c.requires.rising c.requires.parts c.part_of-at.ensures.part got in
     parts_put g.met.K.Ord.total c.args.key (arc_value c.args.value) cs ps c.follow.new.items.items at x b
-        (c.follow.ensures.items ∙ followed cs at c.slot_put-next.new.slot (option_to_list c.slot_put-next.result) c.part_of-at.ensures.within) c.slot_put-next.ensures.put
+    (c.follow.ensures.items ∙ followed cs at c.slot_put-next.new.slot (option_to_list c.slot_put-next.result) c.part_of-at.ensures.within) c.slot_put-next.ensures.put
 
 pub returns-clause-parts : goal.returns-clause-parts
 returns-clause-parts g c =
@@ -34,4 +34,4 @@ returns-clause-parts g c =
     let at = c.part_of-at.result in
     let ps = c.slot_put-next.new.slot ∷ option_to_list c.slot_put-next.result in
     all_joined (PartFits {K = g.row.K.Denot} {V = g.row.V.Denot}) cs ps c.follow.new.items.items at c.requires.parts c.slot_put-next.ensures.parts
-        (c.follow.ensures.items ∙ followed cs at c.slot_put-next.new.slot (option_to_list c.slot_put-next.result) c.part_of-at.ensures.within)
+    (c.follow.ensures.items ∙ followed cs at c.slot_put-next.new.slot (option_to_list c.slot_put-next.result) c.part_of-at.ensures.within)

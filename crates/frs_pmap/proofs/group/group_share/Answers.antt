@@ -1,4 +1,4 @@
-use Rattle.std.proofs.Common.{◌≡◌, ◌∙◌, ◌+◌, ◌++◌, ◌∷◌, [], ◌<◌, ap, sym, subst, arith, length, refl, take}
+use Rattle.std.proofs.Common.{◌≡◌, ◌∙◌, ◌+◌, ◌++◌, ◌∷◌, [], ◌<◌, List, ap, sym, subst, arith, length, refl, take}
 use Rattle.std.proofs.Math.ListN.{length-set}
 use Rattle.std.specs.Prelude.{slice_get}
 use Rattle.std.proofs.lemmas.Option.{slice_get_read}
@@ -38,13 +38,13 @@ loop-at-preserved g c =
     let y = c.slot_share.new.slot in
     let got = slice_get_read cs (length cs) at x refl within c.index_mut.ensures.value in
     let kept = part_kept cs at x y got c.slot_share.ensures.key c.slot_share.ensures.items c.slot_share.ensures.part c.loop-at.invariant.parts in
-    let row = λ (c : g.row.K.Denot × PartOf g.row.K.Denot g.row.V.Denot). (c.0, seen c.1.items.items) in
+    let row : g.row.K.Denot × PartOf g.row.K.Denot g.row.V.Denot → g.row.K.Denot × List (g.row.K.Denot × g.row.V.Denot) = λ c. (c.0, seen c.1.items.items) in
     record {
       rows = kept.0 ∙ c.loop-at.invariant.rows;
       parts = kept.1;
       shared = c.loop-at.invariant.shared;
-      row = c.in_ok-slot_share.ensures.row ∙ ap (λ l. l ++ (x.0, seen x.1.items.items) ∷ []) c.loop-at.invariant.row
-          ∙ one_taken (part_rows c.args.group.now.items.items) at (x.0, seen x.1.items.items) (ap (λ l. slice_get l at) (sym c.loop-at.invariant.rows) ∙ get_map row cs at x got);
+      row = c.in_ok-slot_share.ensures.row ∙ ap (λ l. l ++ row x ∷ []) c.loop-at.invariant.row
+          ∙ one_taken (part_rows c.args.group.now.items.items) at (row x) (ap (λ l. slice_get l at) (sym c.loop-at.invariant.rows) ∙ get_map row cs at x got);
       len = length-set cs at y ∙ c.loop-at.invariant.len;
       capacity = c.loop-at.invariant.capacity;
     }

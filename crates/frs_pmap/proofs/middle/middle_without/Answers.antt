@@ -17,7 +17,8 @@ pub returns-clause-cut : goal.returns-clause-cut
 returns-clause-cut g c =
     let part : g.row.K.Denot × List (g.row.K.Denot × g.row.V.Denot) = (c.item.result.0, c.item.result.1.now) in
     let b = between g.met.K.Ord.total (λ (x : List (g.row.K.Denot × g.row.V.Denot)). x) c.args.key.now c.args.middle.now c.part_of-at.result part c.requires.branch.rising c.requires.branch.headed c.part_of-at.ensures.part c.item.ensures in
-    cut_part g.met.K.Ord.total (λ (x : List (g.row.K.Denot × g.row.V.Denot)). x) c.args.key.now c.args.middle.now c.in_ok-parts.parts c.in_ok-out.out c.part_of-at.result part b c.in_ok-out.ensures (c.in_ok-parts.ensures.flat ∙ c.in_ok-leaf_without.ensures)
+    c.in_ok-out.ensures.flat ∙ cut_part g.met.K.Ord.total (λ (x : List (g.row.K.Denot × g.row.V.Denot)). x) c.args.key.now c.args.middle.now c.in_ok-parts.parts c.in_ok-less.less c.part_of-at.result part b c.in_ok-less.ensures (c.in_ok-parts.ensures.flat ∙ c.in_ok-leaf_without.ensures)
 
 pub returns-clause-headed : goal.returns-clause-headed
-returns-clause-headed g c = all_joined (λ (p : g.row.K.Denot × List (g.row.K.Denot × g.row.V.Denot)). HasHead p.0 p.1) c.args.middle.now c.in_ok-parts.parts c.in_ok-out.out c.part_of-at.result c.requires.branch.headed c.in_ok-parts.ensures.headed c.in_ok-out.ensures
+returns-clause-headed g c =
+    c.in_ok-out.ensures.headed (all_joined (λ (p : g.row.K.Denot × List (g.row.K.Denot × g.row.V.Denot)). HasHead p.0 p.1) c.args.middle.now c.in_ok-parts.parts c.in_ok-less.less c.part_of-at.result c.requires.branch.headed c.in_ok-parts.ensures.headed c.in_ok-less.ensures)

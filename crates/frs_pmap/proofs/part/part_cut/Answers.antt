@@ -19,7 +19,7 @@ returns-then-is_eq-clause-cut g c =
     let got = slice_get_read es (length es) (at - 1) c.index.result.now refl within c.index.ensures in
     ap seen c.remove.ensures.items
     ∙ slot_cut g.met.K.Ord.total c.args.key.now es at c.index.result.now c.requires c.if-at-gt0.true place got
-        (ap is_eq (sym c.cmp.ensures) ∙ sym c.is_eq.ensures ∙ c.if-is_eq.true)
+    (ap is_eq (sym c.cmp.ensures) ∙ sym c.is_eq.ensures ∙ c.if-is_eq.true)
 
 pub returns-else-is_eq-clause-cut : goal.returns-else-is_eq-clause-cut
 returns-else-is_eq-clause-cut g c =

@@ -27,9 +27,9 @@ returns g c =
     let at = c.place-at.result in
     let place : at ≡ prefix_len (is_upto g.K.Ord.cmp c.args.key.now) es = c.place-at.ensures.place ∙ ap (prefix_len (is_upto g.K.Ord.cmp c.args.key.now)) c.as_slice.ensures.value in
     slot_missing g.met.K.Ord.total c.args.key.now es at c.requires place
-        (λ some. elim c.if-at-gt0.branch [
-          | then-at-gt0+else-is_eq w ↦
-              let within : at - 1 < length es = omega (arith, c.place-at.ensures.within, ap length c.as_slice.ensures.value, some) in
-              (w.index-item.result.now, slice_get_read es (length es) (at - 1) w.index-item.result.now refl within w.index-item.ensures, ap is_eq (sym w.cmp.ensures) ∙ sym w.is_eq.ensures ∙ w.if-is_eq.false)
-          | else-at-gt0 w ↦ absurd (omega (arith, w.if-at-gt0.false, some))
-        ])
+    (λ some. elim c.if-at-gt0.branch [
+      | then-at-gt0+else-is_eq w ↦
+          let within : at - 1 < length es = omega (arith, c.place-at.ensures.within, ap length c.as_slice.ensures.value, some) in
+          (w.index-item.result.now, slice_get_read es (length es) (at - 1) w.index-item.result.now refl within w.index-item.ensures, ap is_eq (sym w.cmp.ensures) ∙ sym w.is_eq.ensures ∙ w.if-is_eq.false)
+      | else-at-gt0 w ↦ absurd (omega (arith, w.if-at-gt0.false, some))
+    ])

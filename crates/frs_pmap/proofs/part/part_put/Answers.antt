@@ -22,7 +22,7 @@ returns-then-is_eq-clause-put g c =
     let again = slice_get_read es (length es) (at - 1) c.index_mut.result.now refl within c.index_mut.ensures.value in
     ap (λ (y : g.row.K.Denot × _). seen (set es (at - 1) (y.0, c.args.value))) (one_read es (at - 1) c.index_mut.result.now c.index.result.now again got)
     ∙ slot_over g.met.K.Ord.total c.args.key c.args.value es at c.index.result.now c.requires.rising c.if-at-gt0.true place got
-        (ap is_eq (sym c.cmp.ensures) ∙ sym c.is_eq.ensures ∙ c.if-is_eq.true)
+    (ap is_eq (sym c.cmp.ensures) ∙ sym c.is_eq.ensures ∙ c.if-is_eq.true)
 
 pub returns-clause-put : goal.returns-clause-put
 returns-clause-put g c =
@@ -31,9 +31,9 @@ returns-clause-put g c =
     let place : at ≡ prefix_len (is_upto g.K.Ord.cmp c.args.key) es = c.place-at.ensures.place ∙ ap (prefix_len (is_upto g.K.Ord.cmp c.args.key)) c.as_slice.ensures.value in
     ap seen c.insert_reserved.ensures.items
     ∙ slot_new g.met.K.Ord.total c.args.key c.args.value es at c.requires.rising place
-        (λ some. elim c.if-at-gt0.branch [
-          | then-at-gt0+else-is_eq w ↦
-              let within : at - 1 < length es = omega (arith, c.place-at.ensures.within, ap length c.as_slice.ensures.value, some) in
-              (w.index.result.now, slice_get_read es (length es) (at - 1) w.index.result.now refl within w.index.ensures, ap is_eq (sym w.cmp.ensures) ∙ sym w.is_eq.ensures ∙ w.if-is_eq.false)
-          | else-at-gt0 w ↦ absurd (omega (arith, w.if-at-gt0.false, some))
-        ])
+    (λ some. elim c.if-at-gt0.branch [
+      | then-at-gt0+else-is_eq w ↦
+          let within : at - 1 < length es = omega (arith, c.place-at.ensures.within, ap length c.as_slice.ensures.value, some) in
+          (w.index.result.now, slice_get_read es (length es) (at - 1) w.index.result.now refl within w.index.ensures, ap is_eq (sym w.cmp.ensures) ∙ sym w.is_eq.ensures ∙ w.if-is_eq.false)
+      | else-at-gt0 w ↦ absurd (omega (arith, w.if-at-gt0.false, some))
+    ])

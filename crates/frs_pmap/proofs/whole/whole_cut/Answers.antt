@@ -51,7 +51,7 @@ returns-clause-cut g c =
     let got = slice_get_read cs (length cs) at x refl c.part_of-at.ensures.within c.index_mut.ensures.value in
     let b = group_at g.met.K.Ord.total c.args.key.now cs at x c.requires.rising c.requires.groups c.part_of-at.ensures.part got in
     groups_cut g.met.K.Ord.total c.args.key.now cs [] c.remove.new.self.items at x b (c.remove.ensures.items ∙ taken_out cs at y c.part_of-at.ensures.within)
-        (sym (ap entries_in (c.slot_cut.ensures.empty c.if-slot_cut.false)) ∙ c.slot_cut.ensures.cut)
+    (sym (ap entries_in (c.slot_cut.ensures.empty c.if-slot_cut.false)) ∙ c.slot_cut.ensures.cut)
 
 pub returns-clause-table : goal.returns-clause-table
 returns-clause-table g c =
@@ -63,4 +63,3 @@ returns-clause-table g c =
       groups = all_joined (GroupFits {K = g.row.K.Denot} {V = g.row.V.Denot}) cs [] c.remove.new.self.items at c.requires.groups tt (c.remove.ensures.items ∙ taken_out cs at y c.part_of-at.ensures.within);
       remembered = tt;
     }
-

@@ -22,4 +22,4 @@ returns g c =
     let x = c.index.result.now in
     let got = slice_get_read cs (length cs) c.part_of.result x refl c.part_of.ensures.within c.index.ensures in
     c.group_get.ensures ∙ sym (get_part g.met.K.Ord.total (seen_under {K = g.row.K.Denot} {V = g.row.V.Denot}) c.args.key.now cs c.part_of.result x
-        (group_at g.met.K.Ord.total c.args.key.now cs c.part_of.result x c.requires.rising c.requires.groups c.part_of.ensures.part got))
+    (group_at g.met.K.Ord.total c.args.key.now cs c.part_of.result x c.requires.rising c.requires.groups c.part_of.ensures.part got))

@@ -28,7 +28,7 @@ returns-clause-put g c =
     let got = slice_get_read cs (length cs) at x refl c.part_of-at.ensures.within c.index_mut.ensures.value in
     let b = group_at g.met.K.Ord.total c.args.key cs at x c.requires.table.rising c.requires.table.groups c.part_of-at.ensures.part got in
     groups_put g.met.K.Ord.total c.args.key (arc_value c.args.value) cs ps c.follow.new.items.items at x b
-        (c.follow.ensures.items ∙ followed cs at c.slot_put-next.new.slot (option_to_list c.slot_put-next.result) c.part_of-at.ensures.within) c.slot_put-next.ensures.put
+    (c.follow.ensures.items ∙ followed cs at c.slot_put-next.new.slot (option_to_list c.slot_put-next.result) c.part_of-at.ensures.within) c.slot_put-next.ensures.put
 
 pub returns-clause-table : goal.returns-clause-table
 returns-clause-table g c =
