@@ -53,7 +53,7 @@ all_of : {Y : Type 0} (xs : List Y) (n : ℕ) → n ≡ length xs → take (n - 
 all_of xs n e = ap (λ m. take (m - 0) (drop 0 xs)) e ∙ take_rest xs 0
 
 module _ {K X : Type 0} where
-  head_more : (k : K) (l m : List (K × X)) → HasHead k l → HasHead k (l ++ m)
+  pub head_more : (k : K) (l m : List (K × X)) → HasHead k l → HasHead k (l ++ m)
   head_more k [] m h = absurd h
   head_more k (e ∷ l) m h = h
 

@@ -6,6 +6,7 @@ pub mod Firsts
 pub mod Ranges
 pub mod Joins
 pub mod Counts
+pub mod Absorbs
 pub mod Slots
 pub mod Tables
 pub mod Changes

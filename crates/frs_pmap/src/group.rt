@@ -6,7 +6,7 @@ ghost use Rattle.frs_pmap.specs.Entries.{IsRising, cut_at, put_at, value_at};
 ghost use Rattle.frs_pmap.specs.Trees.{HasHead};
 ghost use Rattle.frs_pmap.specs.Nodes.{AreParts, IsGroup, IsPart, IsSpare, entries_in, in_group, in_part, part_rows};
 
-use crate::node::{Node, follow, rekey, settle};
+use crate::node::{Node, absorb, are_few, follow, rekey, settle};
 use crate::part::{Part, part_cut, part_get, part_put, part_share};
 use crate::row::{Middle, Row};
 use std::alloc::{AllocError, Global};
@@ -62,6 +62,26 @@ pub(crate) fn group_put<K: Ord + Copy, V: Drop>(
     follow(&mut group.items, at, next);
 }
 
+/// Joins the part at a place with the one behind it, where both have few items.
+fn group_join<K: Ord + Copy, V: Drop>(group: &mut Group<K, V>, at: usize)
+    requires { AreParts group.old.items.items }
+    ensures same { in_group group.new ≡ in_group group.old }
+    ensures parts { AreParts group.new.items.items }
+    ensures most { length group.new.items.items ≤ length group.old.items.items }
+    ensures capacity { vec_capacity group.new.items ≡ vec_capacity group.old.items }
+    ensures shared { group.new.shared ≡ group.old.shared }
+{
+    let len = group.items.len();
+    if len < 2 || at > len - 2 {
+        return;
+    }
+    if !are_few(&group.items[at].1, &group.items[at + 1].1) {
+        return;
+    }
+    let back = group.items.remove(at + 1);
+    absorb(&mut group.items[at], back.1);
+}
+
 /// Takes the entry of a key out of a part, and tells whether it has others.
 fn slot_cut<K: Ord + Copy, V: Drop>(slot: &mut (K, Part<K, V>), key: &K) -> bool
     requires part { IsPart slot.old.1 }
@@ -89,6 +109,8 @@ pub(crate) fn group_cut<K: Ord + Copy, V: Drop>(group: &mut Group<K, V>, key: &K
     group.shared = None;
     let at = group.part_of(key);
     if slot_cut(&mut group.items[at], key) {
+        group_join(group, at);
+        group_join(group, at.saturating_sub(1));
         return;
     }
     let _ = group.items.remove(at);

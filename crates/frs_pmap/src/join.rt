@@ -2,11 +2,8 @@
 ghost use Rattle.std.specs.Prelude.{◌≡◌, ◌<◌, ◌+◌, IfOk, length};
 ghost use Rattle.frs_pmap.specs.Trees.{IsJoined};
 
-use crate::row::{MOST, Row};
+use crate::row::{FEW, MOST, Row};
 use std::alloc::{AllocError, Global};
-
-/// Two rows beside each other with so many keys at most are joined.
-const FEW: usize = MOST / 2;
 
 /// The row at a place and the one behind it in one.
 fn joined_pair<K: Ord + Copy, P: Drop>(

@@ -5,7 +5,7 @@ ghost use Rattle.frs_pmap.specs.Entries.{IsRising, is_upto};
 ghost use Rattle.frs_pmap.specs.Nodes.{IsFresh, IsSpare, held_by};
 ghost use Rattle.frs_pmap.specs.Trees.{HasHead};
 
-use crate::row::{MOST, place};
+use crate::row::{FEW, MOST, place};
 use std::alloc::{AllocError, Global};
 use std::sync::Arc;
 
@@ -140,6 +140,30 @@ pub(crate) fn follow<T: Drop>(items: &mut Vec<T>, at: usize, next: Option<T>)
     if let Some(next) = next {
         insert_reserved(items, at + 1, next);
     }
+}
+
+/// Whether two nodes have few items.
+pub(crate) fn are_few<K, T, S>(front: &Node<K, T, S>, back: &Node<K, T, S>) -> bool
+    ensures { result ≡ true → length front.now.items.items + length back.now.items.items ≤ 32 }
+{
+    let front_len = front.items.len();
+    front_len <= FEW && back.items.len() <= FEW - front_len
+}
+
+/// Moves the items of a node behind those of another that has room for them.
+pub(crate) fn absorb<K: Drop, T: Drop, S: Drop>(slot: &mut (K, Node<K, T, S>), back: Node<K, T, S>)
+    requires room { length slot.old.1.items.items + length back.items.items
+        ≤ vec_capacity slot.old.1.items }
+    ensures key { slot.new.0 ≡ slot.old.0 }
+    ensures items { slot.new.1.items.items ≡ slot.old.1.items.items ++ back.items.items }
+    ensures capacity { vec_capacity slot.old.1.items ≤ vec_capacity slot.new.1.items }
+    ensures forgot { slot.new.1.shared ≡ None }
+{
+    let mut items = back.items;
+    slot.1.shared = None;
+    let Ok(()) = slot.1.items.append(&mut items) else {
+        unreachable!()
+    };
 }
 
 /// Puts a node under its first key, and tells whether it has one.

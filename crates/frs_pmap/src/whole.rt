@@ -7,7 +7,7 @@ ghost use Rattle.frs_pmap.specs.Stocks.{HasPlace, IsKept, kept_in};
 ghost use Rattle.frs_pmap.specs.Nodes.{AreGiven, AreGroups, AreSpare, IsGroup, IsTable, entries_under, group_rows, in_group, in_whole, part_rows};
 
 use crate::group::{Group, group_cut, group_get, group_put, group_share};
-use crate::node::{Node, follow, rekey, settle};
+use crate::node::{Node, absorb, are_few, follow, rekey, settle};
 use crate::part::Part;
 use crate::row::{Root, Row};
 use std::alloc::{AllocError, Global};
@@ -125,6 +125,26 @@ pub(crate) fn whole_put<K: Ord + Copy, V: Drop>(
     follow(&mut whole.items, at, next);
 }
 
+/// Joins the group at a place with the one behind it, where both have few items.
+fn whole_join<K: Ord + Copy, V: Drop>(whole: &mut Whole<K, V>, at: usize)
+    requires { AreGroups whole.old.items.items }
+    ensures same { in_whole whole.new ≡ in_whole whole.old }
+    ensures groups { AreGroups whole.new.items.items }
+    ensures most { length whole.new.items.items ≤ length whole.old.items.items }
+    ensures capacity { vec_capacity whole.new.items ≡ vec_capacity whole.old.items }
+    ensures shared { whole.new.shared ≡ whole.old.shared }
+{
+    let len = whole.items.len();
+    if len < 2 || at > len - 2 {
+        return;
+    }
+    if !are_few(&whole.items[at].1, &whole.items[at + 1].1) {
+        return;
+    }
+    let back = whole.items.remove(at + 1);
+    absorb(&mut whole.items[at], back.1);
+}
+
 /// Takes the entry of a key out of a group, and tells whether it has others.
 fn slot_cut<K: Ord + Copy, V: Drop>(slot: &mut (K, Group<K, V>), key: &K) -> bool
     requires group { IsGroup slot.old.1 }
@@ -153,6 +173,8 @@ pub(crate) fn whole_cut<K: Ord + Copy, V: Drop>(whole: &mut Whole<K, V>, key: &K
     whole.shared = None;
     let at = whole.part_of(key);
     if slot_cut(&mut whole.items[at], key) {
+        whole_join(whole, at);
+        whole_join(whole, at.saturating_sub(1));
         return;
     }
     let _ = whole.items.remove(at);

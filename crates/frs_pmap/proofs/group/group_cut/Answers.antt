@@ -17,6 +17,14 @@ slot_cut-requires-clause-rising g c =
     let got = slice_get_read cs (length cs) c.part_of-at.result x refl c.part_of-at.ensures.within c.index_mut.ensures.value in
     (part_at g.met.K.Ord.total c.args.key.now cs c.part_of-at.result x c.requires.rising c.requires.parts c.part_of-at.ensures.part got).rising
 
+pub group_join-requires : goal.group_join-requires
+group_join-requires g c =
+    let cs = c.args.group.now.items.items in
+    let at = c.part_of-at.result in
+    let y = c.slot_cut.new.slot in
+    all_joined (PartFits {K = g.row.K.Denot} {V = g.row.V.Denot}) cs (y ∷ []) (set cs at y) at c.requires.parts ((c.slot_cut.ensures.kept c.if-slot_cut.true, c.slot_cut.ensures.part), tt)
+    (changed cs at y c.part_of-at.ensures.within)
+
 pub returns-then-slot_cut-clause-cut : goal.returns-then-slot_cut-clause-cut
 returns-then-slot_cut-clause-cut g c =
     let cs = c.args.group.now.items.items in
@@ -25,15 +33,8 @@ returns-then-slot_cut-clause-cut g c =
     let y = c.slot_cut.new.slot in
     let got = slice_get_read cs (length cs) at x refl c.part_of-at.ensures.within c.index_mut.ensures.value in
     let b = part_at g.met.K.Ord.total c.args.key.now cs at x c.requires.rising c.requires.parts c.part_of-at.ensures.part got in
-    parts_cut g.met.K.Ord.total c.args.key.now cs (y ∷ []) (set cs at y) at x b (changed cs at y c.part_of-at.ensures.within) (append-nil (seen y.1.items.items) ∙ c.slot_cut.ensures.cut)
-
-pub returns-then-slot_cut-clause-parts : goal.returns-then-slot_cut-clause-parts
-returns-then-slot_cut-clause-parts g c =
-    let cs = c.args.group.now.items.items in
-    let at = c.part_of-at.result in
-    let y = c.slot_cut.new.slot in
-    all_joined (PartFits {K = g.row.K.Denot} {V = g.row.V.Denot}) cs (y ∷ []) (set cs at y) at c.requires.parts ((c.slot_cut.ensures.kept c.if-slot_cut.true, c.slot_cut.ensures.part), tt)
-    (changed cs at y c.part_of-at.ensures.within)
+    c.group_join-then-slot_cut.ensures.same ∙ c.group_join.ensures.same
+    ∙ parts_cut g.met.K.Ord.total c.args.key.now cs (y ∷ []) (set cs at y) at x b (changed cs at y c.part_of-at.ensures.within) (append-nil (seen y.1.items.items) ∙ c.slot_cut.ensures.cut)
 
 pub returns-clause-cut : goal.returns-clause-cut
 returns-clause-cut g c =

@@ -21,6 +21,14 @@ slot_cut-requires-clause-rising g c =
     let got = slice_get_read cs (length cs) c.part_of-at.result x refl c.part_of-at.ensures.within c.index_mut.ensures.value in
     (group_at g.met.K.Ord.total c.args.key.now cs c.part_of-at.result x c.requires.rising c.requires.groups c.part_of-at.ensures.part got).rising
 
+pub whole_join-requires : goal.whole_join-requires
+whole_join-requires g c =
+    let cs = c.args.whole.now.items.items in
+    let at = c.part_of-at.result in
+    let y = c.slot_cut.new.slot in
+    all_joined (GroupFits {K = g.row.K.Denot} {V = g.row.V.Denot}) cs (y ∷ []) (set cs at y) at c.requires.groups ((c.slot_cut.ensures.kept c.if-slot_cut.true, c.slot_cut.ensures.group), tt)
+    (changed cs at y c.part_of-at.ensures.within)
+
 pub returns-then-slot_cut-clause-cut : goal.returns-then-slot_cut-clause-cut
 returns-then-slot_cut-clause-cut g c =
     let cs = c.args.whole.now.items.items in
@@ -29,18 +37,15 @@ returns-then-slot_cut-clause-cut g c =
     let y = c.slot_cut.new.slot in
     let got = slice_get_read cs (length cs) at x refl c.part_of-at.ensures.within c.index_mut.ensures.value in
     let b = group_at g.met.K.Ord.total c.args.key.now cs at x c.requires.rising c.requires.groups c.part_of-at.ensures.part got in
-    groups_cut g.met.K.Ord.total c.args.key.now cs (y ∷ []) (set cs at y) at x b (changed cs at y c.part_of-at.ensures.within) (append-nil (entries_in y.1.items.items) ∙ c.slot_cut.ensures.cut)
+    c.whole_join-then-slot_cut.ensures.same ∙ c.whole_join.ensures.same
+    ∙ groups_cut g.met.K.Ord.total c.args.key.now cs (y ∷ []) (set cs at y) at x b (changed cs at y c.part_of-at.ensures.within) (append-nil (entries_in y.1.items.items) ∙ c.slot_cut.ensures.cut)
 
 pub returns-then-slot_cut-clause-table : goal.returns-then-slot_cut-clause-table
-returns-then-slot_cut-clause-table g c =
-    let cs = c.args.whole.now.items.items in
-    let at = c.part_of-at.result in
-    let y = c.slot_cut.new.slot in
-    record {
-      rising = subst (IsRising g.K.Ord.cmp) (sym (returns-then-slot_cut-clause-cut g c)) (rising_less g.met.K.Ord.total (is_at (g.K.Ord.cmp c.args.key.now)) _ c.requires.rising);
-      groups = all_joined (GroupFits {K = g.row.K.Denot} {V = g.row.V.Denot}) cs (y ∷ []) (set cs at y) at c.requires.groups ((c.slot_cut.ensures.kept c.if-slot_cut.true, c.slot_cut.ensures.group), tt) (changed cs at y c.part_of-at.ensures.within);
-      remembered = tt;
-    }
+returns-then-slot_cut-clause-table g c = record {
+  rising = subst (IsRising g.K.Ord.cmp) (sym (returns-then-slot_cut-clause-cut g c)) (rising_less g.met.K.Ord.total (is_at (g.K.Ord.cmp c.args.key.now)) _ c.requires.rising);
+  groups = c.whole_join-then-slot_cut.ensures.groups;
+  remembered = forgets _ _ (c.whole_join-then-slot_cut.ensures.shared ∙ c.whole_join.ensures.shared);
+}
 
 pub returns-clause-cut : goal.returns-clause-cut
 returns-clause-cut g c =
