@@ -1,16 +1,15 @@
 -- Two nodes that stand beside each other, the items of one moved behind those of the other.
-use Rattle.std.proofs.Common.{◌≡◌, ◌∙◌, ◌+◌, ◌<◌, ◌≤◌, ℕ, List, [], ◌∷◌, ◌++◌, Some, None, refl, sym, ap, subst, suc, zero, length, take, drop, map, arith}
+use Rattle.std.proofs.Common.{◌≡◌, ◌∙◌, ◌+◌, ◌<◌, ◌≤◌, ℕ, List, [], ◌∷◌, ◌++◌, Some, None, refl, sym, ap, subst, suc, zero, length, take, drop, arith}
 use Rattle.std.specs.Prelude.{remove, slice_get, vec_capacity}
 use Rattle.std.specs.List.{AllByRecursion}
 use Rattle.std.proofs.lemmas.Grind.{flat_map-append}
 use Rattle.std.proofs.lemmas.List.{map-append}
 use Rattle.frs_pmap.specs.Entries.{seen, seen_one}
-use Rattle.frs_pmap.specs.Nodes.{AreGroups, AreParts, GroupOf, IsGroup, IsPart, PartOf, entries_in, entries_under, part_rows}
+use Rattle.frs_pmap.specs.Nodes.{AreParts, GroupOf, PartOf, entries_in, entries_under, part_rows}
 use Rattle.frs_pmap.specs.Trees.{HasHead}
 use Rattle.frs_pmap.proofs.Changes.{GroupFits, PartFits}
-use Rattle.frs_pmap.proofs.Joins.{head_more, pair_all, pair_holds}
+use Rattle.frs_pmap.proofs.Joins.{head_more, pair_holds}
 use Rattle.frs_pmap.proofs.Orders.{all_join}
-use Rattle.frs_pmap.proofs.Parts.{at_one}
 use Rattle.frs_pmap.proofs.Tables.{forgets}
 
 -- what stands before one that is taken out

@@ -1,15 +1,13 @@
 -- What the change of one part, or of one group, makes of all.
-use Rattle.std.proofs.Common.{◌≡◌, ◌∙◌, ◌+◌, ◌-◌, ◌<◌, ◌≤◌, ℕ, List, [], ◌∷◌, ◌++◌, Some, None, refl, sym, ap, subst, suc, zero, length, take, drop, set, map, arith}
+use Rattle.std.proofs.Common.{◌≡◌, ◌∙◌, ◌+◌, ◌-◌, ◌<◌, ℕ, List, [], ◌∷◌, ◌++◌, Some, refl, sym, ap, suc, zero, length, take, drop, set, arith}
 use Rattle.std.specs.Prelude.{remove, slice_get}
-use Rattle.std.specs.List.{AllByRecursion, flat_map, prefix_len}
-use Rattle.std.specs.BTreeMap.{insert_entry, is_at}
-use Rattle.std.specs.Map.{lookup, remove_entry}
+use Rattle.std.specs.List.{prefix_len}
 use Rattle.std.specs.Cmp.{IsTotalOrder}
 use Rattle.std.specs.declared.cmp.Ordering.{Ordering}
-use Rattle.frs_pmap.specs.Entries.{IsRising, cut_at, is_upto, put_at, seen, value_at}
+use Rattle.frs_pmap.specs.Entries.{IsRising, cut_at, is_upto, put_at, seen}
 use Rattle.frs_pmap.specs.Nodes.{AreGroups, AreParts, GroupOf, IsGroup, IsPart, PartOf, entries_in, entries_under}
 use Rattle.frs_pmap.specs.Trees.{HasHead}
-use Rattle.frs_pmap.proofs.Parts.{Between, all_joined, at_one, between, cut_part, get_part, head_some, lows_rising, put_part}
+use Rattle.frs_pmap.proofs.Parts.{Between, between, cut_part, lows_rising, put_part}
 use Rattle.frs_pmap.proofs.Tables.{group_heads, part_heads}
 
 abbrev pub seen_in : {K V : Type 0} → PartOf K V → List (K × V)

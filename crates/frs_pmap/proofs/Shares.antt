@@ -1,8 +1,8 @@
 -- What is kept of shared rows, and what they are rows of.
-use Rattle.std.proofs.Common.{◌≡◌, ◌∙◌, ◌+◌, ◌<◌, ℕ, List, [], ◌∷◌, ◌++◌, Some, None, refl, sym, ap, subst, suc, zero, length, take, set, map, arith, Vec}
+use Rattle.std.proofs.Common.{◌≡◌, ◌∙◌, ℕ, List, [], ◌∷◌, ◌++◌, Some, refl, sym, ap, subst, suc, zero, length, set, map, Vec}
 use Rattle.std.specs.Prelude.{slice_get}
 use Rattle.std.proofs.lemmas.List.{length-map}
-use Rattle.std.specs.List.{AllByRecursion, flat_map}
+use Rattle.std.specs.List.{AllByRecursion}
 use Rattle.std.specs.declared.alloc.Global.{Global}
 use Rattle.std.specs.declared.sync.Arc.{Arc}
 use Rattle.std.specs.declared.cmp.Ordering.{Ordering}
@@ -11,7 +11,6 @@ use Rattle.frs_pmap.specs.Nodes.{AreGroups, AreParts, GroupOf, IsGroup, IsPart, 
 use Rattle.frs_pmap.specs.Trees.{AreHeaded, HasHead, IsTree, entries_of, flat}
 use Rattle.frs_pmap.proofs.Changes.{GroupFits, PartFits}
 use Rattle.frs_pmap.proofs.Parts.{at_one}
-use Rattle.frs_pmap.proofs.Tables.{part_heads}
 
 -- ---- one that changed nothing that is seen
 

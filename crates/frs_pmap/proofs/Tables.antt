@@ -1,13 +1,11 @@
 -- Nodes of a table: what holds of them after a change.
-use Rattle.std.proofs.Common.{◌≡◌, ◌∙◌, ◌+◌, ◌-◌, ◌<◌, ◌≤◌, ℕ, List, [], ◌∷◌, ◌++◌, Option, Some, None, refl, sym, ap, subst, suc, zero, length, take, drop, set, insert, map, arith, append_assoc}
-use Rattle.std.specs.Prelude.{Vec, MatchOption, option_to_list}
-use Rattle.std.specs.List.{AllByRecursion, flat_map}
+use Rattle.std.proofs.Common.{◌≡◌, ◌∙◌, ◌+◌, ◌<◌, ℕ, List, [], ◌∷◌, ◌++◌, Option, None, refl, sym, ap, subst, suc, zero, length, take, drop, set, arith}
+use Rattle.std.specs.List.{AllByRecursion}
 use Rattle.std.proofs.lemmas.List.{map-append}
-use Rattle.std.specs.Arc.{arc_value}
 use Rattle.std.specs.declared.alloc.Global.{Global}
 use Rattle.std.specs.declared.sync.Arc.{Arc}
 use Rattle.frs_pmap.specs.Entries.{seen, seen_one}
-use Rattle.frs_pmap.specs.Nodes.{AreGroups, AreParts, GroupOf, HasRoom, IsFresh, IsGroup, IsPart, PartOf, Remembers, entries_in, entries_under, held_by, part_rows}
+use Rattle.frs_pmap.specs.Nodes.{AreGroups, AreParts, GroupOf, IsFresh, IsPart, PartOf, Remembers, entries_in, entries_under, held_by, part_rows}
 use Rattle.frs_pmap.specs.Trees.{HasHead}
 use Rattle.std.proofs.lemmas.Grind.{flat_map-append}
 use Rattle.frs_pmap.proofs.Orders.{all_back, all_front}

@@ -1,5 +1,5 @@
 -- What a table keeps, and how contracts see it.
-use Rattle.std.specs.Prelude.{◌≡◌, ◌<◌, ◌≤◌, ℕ, List, [], Option, Some, None, MatchOption, length, refl, vec_capacity}
+use Rattle.std.specs.Prelude.{◌<◌, ◌≤◌, ℕ, List, [], Option, Some, None, MatchOption, length, refl, vec_capacity}
 use Rattle.std.specs.Coded.{Coded, code_by, coded×, coded_list, coded_ℕ}
 use Rattle.std.specs.declared.cmp.Ordering.{Ordering}
 use Rattle.frs_pmap.specs.Nodes.{AreGiven, AreSpare, IsTable, RootOf, entries_under}

@@ -1,6 +1,4 @@
-use Rattle.std.proofs.Common.{◌≡◌, ◌∙◌, ◌+◌, ◌++◌, ◌∷◌, [], ap, append-nil, sym, subst, length, refl, take, drop, set, true, false}
-use Rattle.std.specs.Arc.{arc_value}
-use Rattle.std.specs.Prelude.{option_to_list, remove}
+use Rattle.std.proofs.Common.{◌∙◌, ◌∷◌, [], ap, append-nil, sym, length, refl, set}
 use Rattle.std.proofs.lemmas.Option.{slice_get_read}
 use Rattle.frs_pmap.specs.Entries.{seen}
 use Rattle.frs_pmap.proofs.Changes.{PartFits, changed, part_at, part_lows, parts_cut, taken_out}

@@ -1,6 +1,4 @@
-use Rattle.std.proofs.Common.{◌≡◌, ◌∙◌, ◌+◌, ◌++◌, ◌∷◌, [], ap, sym, subst, length, refl, take, drop, set, true, false}
-use Rattle.std.specs.Arc.{arc_value}
-use Rattle.std.specs.Prelude.{option_to_list, remove}
+use Rattle.std.proofs.Common.{◌∙◌, sym, length, refl}
 use Rattle.std.proofs.lemmas.Option.{slice_get_read}
 use Rattle.frs_pmap.proofs.Changes.{part_at, part_lows, seen_in}
 use Rattle.frs_pmap.proofs.Parts.{get_part}

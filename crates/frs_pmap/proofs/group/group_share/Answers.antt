@@ -1,12 +1,12 @@
-use Rattle.std.proofs.Common.{◌≡◌, ◌∙◌, ◌+◌, ◌++◌, ◌∷◌, [], ◌<◌, List, ap, sym, subst, arith, length, refl, take}
+use Rattle.std.proofs.Common.{◌∙◌, ◌++◌, ◌∷◌, [], ◌<◌, List, ap, sym, arith, length, refl}
 use Rattle.std.proofs.Math.ListN.{length-set}
 use Rattle.std.specs.Prelude.{slice_get}
 use Rattle.std.proofs.lemmas.Option.{slice_get_read}
-use Rattle.frs_pmap.specs.Entries.{IsRising, seen}
-use Rattle.frs_pmap.specs.Nodes.{GroupOf, PartOf, group_rows, part_rows}
+use Rattle.frs_pmap.specs.Entries.{seen}
+use Rattle.frs_pmap.specs.Nodes.{PartOf, part_rows}
 use Rattle.frs_pmap.proofs.Changes.{PartFits}
 use Rattle.frs_pmap.proofs.Parts.{at_one}
-use Rattle.frs_pmap.proofs.Shares.{entries_kept, get_map, part_kept}
+use Rattle.frs_pmap.proofs.Shares.{get_map, part_kept}
 use Rattle.frs_pmap.proofs.Slots.{one_taken}
 use Rattle.frs_pmap.proofs.Tables.{forgets}
 use Rattle.frs_pmap.proofs.group.group_share.Goals as goal

@@ -1,4 +1,4 @@
-use Rattle.std.proofs.Common.{◌≡◌, List}
+use Rattle.std.proofs.Common.{List}
 use Rattle.frs_pmap.proofs.Joins.{pair_made}
 use Rattle.frs_pmap.proofs.join.joined_pair.Goals as goal
 

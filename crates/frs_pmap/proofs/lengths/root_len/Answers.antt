@@ -1,4 +1,4 @@
-use Rattle.std.proofs.Common.{◌≡◌, ◌-◌, ◌^◌, List}
+use Rattle.std.proofs.Common.{◌-◌, ◌^◌, List}
 use Rattle.frs_pmap.specs.Trees.{flat}
 use Rattle.frs_pmap.proofs.Counts.{count_more}
 use Rattle.frs_pmap.proofs.lengths.root_len.Goals as goal

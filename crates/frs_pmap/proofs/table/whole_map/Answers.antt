@@ -1,4 +1,4 @@
-use Rattle.std.proofs.Common.{◌≡◌, ◌∙◌, ap, sym, subst}
+use Rattle.std.proofs.Common.{◌∙◌, ap, sym, subst}
 use Rattle.frs_pmap.specs.Trees.{IsTree, entries_of}
 use Rattle.frs_pmap.proofs.Shares.{entries_kept, rows_entries, rows_len, rows_tree}
 use Rattle.frs_pmap.proofs.table.whole_map.Goals as goal

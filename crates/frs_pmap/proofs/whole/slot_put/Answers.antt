@@ -1,4 +1,4 @@
-use Rattle.std.proofs.Common.{◌≡◌, ◌∙◌, ◌∷◌, ap, sym, subst}
+use Rattle.std.proofs.Common.{◌∙◌, ◌∷◌, ap, sym, subst}
 use Rattle.std.specs.Prelude.{option_to_list}
 use Rattle.frs_pmap.specs.Nodes.{AreParts, entries_in}
 use Rattle.frs_pmap.proofs.Tables.{entries_under_held, fresh_groups}

@@ -1,9 +1,7 @@
-use Rattle.std.proofs.Common.{◌≡◌, ◌∙◌, ◌+◌, ◌++◌, ◌∷◌, [], ap, append-nil, sym, subst, length, refl, take, drop, set, true, false}
-use Rattle.std.specs.Arc.{arc_value}
-use Rattle.std.specs.Prelude.{option_to_list, remove}
+use Rattle.std.proofs.Common.{◌∙◌, ◌∷◌, [], ap, append-nil, sym, subst, length, refl, set}
 use Rattle.std.proofs.lemmas.Option.{slice_get_read}
 use Rattle.frs_pmap.specs.Entries.{IsRising}
-use Rattle.frs_pmap.specs.Nodes.{entries_in, group_rows}
+use Rattle.frs_pmap.specs.Nodes.{entries_in}
 use Rattle.std.specs.BTreeMap.{is_at}
 use Rattle.frs_pmap.proofs.Changes.{GroupFits, changed, group_at, group_lows, groups_cut, taken_out}
 use Rattle.frs_pmap.proofs.Parts.{all_joined}

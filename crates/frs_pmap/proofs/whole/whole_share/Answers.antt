@@ -1,10 +1,10 @@
-use Rattle.std.proofs.Common.{◌≡◌, ◌∙◌, ◌+◌, ◌++◌, ◌∷◌, [], ◌<◌, List, ap, sym, subst, ◌≤◌, arith, length, refl, set, take}
+use Rattle.std.proofs.Common.{◌∙◌, ◌++◌, ◌∷◌, [], ◌<◌, List, ap, sym, subst, ◌≤◌, arith, length, refl, set}
 use Rattle.std.proofs.Math.ListN.{length-set}
 use Rattle.std.specs.Prelude.{slice_get}
 use Rattle.std.proofs.lemmas.List.{length-map, take_all}
 use Rattle.std.proofs.lemmas.Option.{slice_get_read}
-use Rattle.frs_pmap.specs.Entries.{IsRising, seen}
-use Rattle.frs_pmap.specs.Nodes.{GroupOf, PartOf, group_rows, part_rows}
+use Rattle.frs_pmap.specs.Entries.{IsRising}
+use Rattle.frs_pmap.specs.Nodes.{GroupOf, group_rows, part_rows}
 use Rattle.frs_pmap.proofs.Changes.{GroupFits}
 use Rattle.frs_pmap.proofs.Parts.{at_one}
 use Rattle.frs_pmap.proofs.Shares.{entries_kept, get_map, group_kept}

@@ -1,4 +1,3 @@
-use Rattle.std.proofs.Common.{◌≡◌}
 use Rattle.frs_pmap.proofs.Counts.{none_first}
 use Rattle.frs_pmap.proofs.map.Pmap.is_empty.Goals as goal
 
