@@ -78,3 +78,7 @@ parts_some k (p ∷ ps) h = omega arith
 pub groups_some : {K V : Type 0} (k : K) (gs : List (K × GroupOf K V)) → HasHead k (entries_under gs) → 0 < length gs
 groups_some k [] h = absurd h
 groups_some k (g ∷ gs) h = omega arith
+
+pub entries_some : {K V : Type 0} (k : K) (es : List (K × Arc V Global)) → HasHead k (seen es) → 0 < length es
+entries_some k [] h = absurd h
+entries_some k (e ∷ es) h = omega arith

@@ -5,6 +5,7 @@
 //! that is changed in its place, and that hands out its entries as a [`Pmap`].
 #![tactic(auto)]
 
+mod ahead;
 mod beyond;
 mod group;
 mod join;

@@ -1,10 +1,12 @@
 // Tables that hand out maps.
-ghost use Rattle.std.specs.Prelude.{◌≡◌, ◌<◌, ◌≤◌, ◌+◌, [], IfOk, OnOk, length, option_copied, vec_capacity};
+ghost use Rattle.std.specs.Prelude.{◌≡◌, ◌↔◌, ◌<◌, ◌≤◌, ◌+◌, [], IfOk, IsTrue, OnOk, length, min, option_copied, slice_get, vec_capacity};
 ghost use Rattle.frs_pmap.specs.Nodes.{IsTable, in_whole};
 ghost use Rattle.std.specs.Arc.{arc_value};
-ghost use Rattle.frs_pmap.specs.Entries.{IsRising, cut_at, put_at, value_at};
+ghost use Rattle.frs_pmap.specs.Entries.{IsRising, cut_at, first_above, first_from, lent, put_at, value_at};
 
 use crate::Pmap;
+use crate::ahead::{whole_beyond, whole_first};
+use crate::lengths::whole_len;
 use crate::node::reserve_spare;
 use crate::whole::{Spares, Whole, reserve_whole, whole_cut, whole_get, whole_put, whole_share};
 use std::alloc::{AllocError, Global};
@@ -109,6 +111,23 @@ impl<K: Ord + Copy, V: Drop> Table<K, V> {
         }
     }
 
+    /// How many entries there are, or the most that a `usize` tells.
+    pub fn len(&self) -> usize
+        ensures { result ≡ min (length self.now.entries) usize.MAX }
+    {
+        match &self.whole {
+            None => 0,
+            Some(whole) => whole_len(whole),
+        }
+    }
+
+    /// Whether there are none.
+    pub fn is_empty(&self) -> bool
+        ensures { IsTrue result ↔ (self.now.entries ≡ []) }
+    {
+        self.first().is_none()
+    }
+
     /// The value at a key.
     pub fn get(&self, key: &K) -> Option<&V>
         ensures value { option_copied result ≡ value_at K.cmp key.now self.now.entries }
@@ -117,6 +136,39 @@ impl<K: Ord + Copy, V: Drop> Table<K, V> {
         match &self.whole {
             None => None,
             Some(whole) => whole_get(whole, key),
+        }
+    }
+
+    /// The first entry.
+    pub fn first(&self) -> Option<(K, &V)>
+        ensures first { lent result ≡ slice_get self.now.entries 0 }
+        ensures rising { IsRising K.cmp self.now.entries }
+    {
+        match &self.whole {
+            None => None,
+            Some(whole) => whole_first(whole, 0),
+        }
+    }
+
+    /// The first entry at a key or above it.
+    pub fn at_or_above(&self, key: &K) -> Option<(K, &V)>
+        ensures first { lent result ≡ first_from K.cmp key.now self.now.entries }
+        ensures rising { IsRising K.cmp self.now.entries }
+    {
+        match &self.whole {
+            None => None,
+            Some(whole) => whole_beyond(whole, key, false),
+        }
+    }
+
+    /// The first entry above a key.
+    pub fn above(&self, key: &K) -> Option<(K, &V)>
+        ensures first { lent result ≡ first_above K.cmp key.now self.now.entries }
+        ensures rising { IsRising K.cmp self.now.entries }
+    {
+        match &self.whole {
+            None => None,
+            Some(whole) => whole_beyond(whole, key, true),
         }
     }
 

@@ -100,6 +100,10 @@ fn a_table_hands_out_maps(rt: HostRuntime) -> Result<(), Fail> {
     put_one(alloc, &mut table, 7)?;
     assert_eq!(rt; table.get(&3), None);
     assert_eq!(rt; table.get(&7), Some(&70));
+    assert_eq!(rt; table.first().map(|e| e.0), Some(1));
+    assert_eq!(rt; table.at_or_above(&6).map(|e| e.0), Some(7));
+    assert_eq!(rt; table.above(&9).map(|e| e.0), None);
+    assert_eq!(rt; table.len(), 4);
     assert_eq!(rt;
         before.range(alloc, &0, 9)?.as_slice(),
         [1, 3, 5, 9].as_slice()
