@@ -1,14 +1,14 @@
 -- The first entry at a key or above it.
-use Rattle.std.proofs.Common.{◌≡◌, ◌∙◌, ◌+◌, ◌-◌, ◌<◌, ◌≤◌, ℕ, Bool, true, false, not, cond, List, [], ◌∷◌, ◌++◌, Option, Some, None, refl, sym, ap, subst, suc, zero, length, take, drop, map, arith}
-use Rattle.std.specs.Prelude.{filter, find, option_map, slice_get}
+use Rattle.std.proofs.Common.{◌≡◌, ◌∙◌, ◌+◌, ◌≤◌, ℕ, Bool, true, false, not, cond, List, [], ◌∷◌, ◌++◌, Option, Some, None, refl, sym, ap, suc, zero, length, take, drop, arith}
+use Rattle.std.specs.Prelude.{find, option_map, slice_get}
 use Rattle.std.specs.Option.{is_some}
-use Rattle.std.specs.List.{AllByRecursion, flat_map, prefix_len}
+use Rattle.std.specs.List.{prefix_len}
 use Rattle.std.proofs.lemmas.List.{drop_all}
 use Rattle.std.specs.Cmp.{IsTotalOrder}
-use Rattle.std.specs.Ordering.{is_le, is_lt, ordering_reverse}
+use Rattle.std.specs.Ordering.{is_le, is_lt}
 use Rattle.std.specs.declared.cmp.Ordering.{Ordering}
 use Rattle.std.specs.declared.cmp.Ordering.TheVariants.{Less, Equal, Greater}
-use Rattle.frs_pmap.specs.Entries.{IsRising, first_above, first_from, is_above, is_below, is_beyond, is_from, is_upto}
+use Rattle.frs_pmap.specs.Entries.{is_above, is_below, is_beyond, is_from, is_upto}
 use Rattle.frs_pmap.specs.Trees.{HasHead}
 use Rattle.frs_pmap.proofs.Orders.{AllHigh, AllLow, turned}
 use Rattle.frs_pmap.proofs.Parts.{Between, flat_by}

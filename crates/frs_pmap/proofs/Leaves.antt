@@ -1,10 +1,10 @@
 -- Leaves: what copying around a place gives.
-use Rattle.std.proofs.Common.{◌≡◌, ◌∙◌, ◌+◌, ◌-◌, ◌<◌, ◌≤◌, ℕ, Bool, true, false, cond, List, [], ◌∷◌, ◌++◌, Option, Some, None, refl, sym, ap, subst, suc, zero, length, take, drop, arith, append_assoc}
+use Rattle.std.proofs.Common.{◌≡◌, ◌∙◌, ◌-◌, ◌<◌, ◌≤◌, ℕ, true, false, cond, List, [], ◌∷◌, ◌++◌, Some, None, refl, sym, ap, subst, suc, zero, length, take, drop, arith, append_assoc}
 use Rattle.std.specs.Prelude.{slice_get}
-use Rattle.std.specs.List.{AllByRecursion, prefix_len}
+use Rattle.std.specs.List.{prefix_len}
 use Rattle.std.proofs.lemmas.List.{take_rest, take-append-drop}
 use Rattle.std.specs.Cmp.{IsTotalOrder}
-use Rattle.std.specs.Ordering.{is_eq, is_le, match_ordering, ordering_reverse}
+use Rattle.std.specs.Ordering.{is_eq, is_le, match_ordering}
 use Rattle.std.specs.declared.cmp.Ordering.{Ordering}
 use Rattle.std.specs.declared.cmp.Ordering.TheVariants.{Less, Equal, Greater}
 use Rattle.std.specs.Map.{lookup, remove_entry}
@@ -57,7 +57,7 @@ module _ {K X : Type 0} {cmp : K → K → Ordering} (o : IsTotalOrder cmp) wher
   pub get_none : (k : K) (es : List (K × X)) (at : ℕ) → IsRising cmp es → at ≤ 0 → at ≡ prefix_len (is_upto cmp k) es → lookup (is_at (cmp k)) es ≡ None
   get_none k es at up none is = lookup_high o k es (place_none o k es up (omega arith))
 
-  put_there : (k : K) (v : X) (es : List (K × X)) (i : ℕ) (x : K × X) → Around k es i x → is_eq (cmp k x.0) ≡ true → insert_entry cmp es k v ≡ take i es ++ (x.0, v) ∷ drop (suc i) es
+  pub put_there : (k : K) (v : X) (es : List (K × X)) (i : ℕ) (x : K × X) → Around k es i x → is_eq (cmp k x.0) ≡ true → insert_entry cmp es k v ≡ take i es ++ (x.0, v) ∷ drop (suc i) es
   put_there k v es i x a e =
       ap (λ l. insert_entry cmp l k v) a.split ∙ insert_past o k v (take i es) (x ∷ drop (suc i) es) a.low
       ∙ ap (λ r. take i es ++ match_ordering r ((k, v) ∷ x ∷ drop (suc i) es) ((x.0, v) ∷ drop (suc i) es) (x ∷ insert_entry cmp (drop (suc i) es) k v)) (eq_of x k e)
@@ -72,6 +72,32 @@ module _ {K X : Type 0} {cmp : K → K → Ordering} (o : IsTotalOrder cmp) wher
       low_with [] i x s a l = tt
       low_with (e ∷ es) zero x s a l = (let h : e ≡ x = cc in subst (λ (y : K × X). cmp y.0 k ≡ Less) (sym h) l, tt)
       low_with (e ∷ es) (suc i) x s a l = (a.0, low_with es i x (cc) a.1 l)
+
+  -- where no entry has the key, the new one goes in at the place
+  pub put_new_is : (k : K) (v : X) (es : List (K × X)) (at : ℕ) → IsRising cmp es → at ≡ prefix_len (is_upto cmp k) es
+      → (0 < at → (x : K × X) × (slice_get es (at - 1) ≡ Some x) × (is_eq (cmp k x.0) ≡ false)) → insert_entry cmp es k v ≡ take at es ++ (k, v) ∷ drop at es
+  put_new_is k v es zero up is other = insert_high o k v es (place_none o k es up is)
+  put_new_is k v es (suc i) up is other =
+      let h = other (omega arith) in
+      let n : suc i - 1 ≡ i = omega arith in
+      put_beside k v es i h.0 (subst (λ j. Around k es j h.0) n (around k es (suc i) h.0 up (omega arith) is h.1)) h.2
+
+  -- without the entry that has the key
+  pub cut_there_is : (k : K) (es : List (K × X)) (i : ℕ) (x : K × X) → Around k es i x → is_eq (cmp k x.0) ≡ true → remove_entry (is_at (cmp k)) es ≡ take i es ++ drop (suc i) es
+  cut_there_is k es i x a e =
+      ap (remove_entry (is_at (cmp k))) a.split ∙ remove_past o k (take i es) (x ∷ drop (suc i) es) a.low
+      ∙ ap (λ b. take i es ++ cond b (drop (suc i) es) (x ∷ remove_entry (is_at (cmp k)) (drop (suc i) es))) e
+
+  -- where no entry has the key, all stay
+  pub cut_none_is : (k : K) (es : List (K × X)) (at : ℕ) → IsRising cmp es → at ≡ prefix_len (is_upto cmp k) es
+      → (0 < at → (x : K × X) × (slice_get es (at - 1) ≡ Some x) × (is_eq (cmp k x.0) ≡ false)) → remove_entry (is_at (cmp k)) es ≡ es
+  cut_none_is k es zero up is other = remove_high o k es (place_none o k es up is)
+  cut_none_is k es (suc i) up is other =
+      let h = other (omega arith) in
+      let a = around k es (suc i) h.0 up (omega arith) is h.1 in
+      ap (remove_entry (is_at (cmp k))) a.split ∙ remove_past o k (take (suc i - 1) es) (h.0 ∷ drop (suc (suc i - 1)) es) a.low
+      ∙ ap (λ b. take (suc i - 1) es ++ cond b (drop (suc (suc i - 1)) es) (h.0 ∷ remove_entry (is_at (cmp k)) (drop (suc (suc i - 1)) es))) h.2
+      ∙ ap (λ l. take (suc i - 1) es ++ h.0 ∷ l) (remove_high o k (drop (suc (suc i - 1)) es) a.high) ∙ sym a.split
 
   -- the rows that the code makes
   pub put_over : (k : K) (v : X) (es : List (K × X)) (at : ℕ) (x : K × X) (n : ℕ) (r0 r1 r2 r3 : List (K × X)) → n ≡ length es → IsRising cmp es → 0 < at → at ≡ prefix_len (is_upto cmp k) es → slice_get es (at - 1) ≡ Some x
@@ -90,14 +116,7 @@ module _ {K X : Type 0} {cmp : K → K → Ordering} (o : IsTotalOrder cmp) wher
       let e3 = e3' ∙ ap (λ m. r2 ++ take (m - at) (drop at es)) ml in
       let f : r1 ≡ take at es = e1 ∙ ap (λ l. l ++ take (at - 0) (drop 0 es)) e0 ∙ front_is es at in
       e3 ∙ ap (λ l. l ++ take (length es - at) (drop at es)) (e2 ∙ ap (λ l. l ++ (k, v) ∷ []) f) ∙ append_assoc (take at es) ((k, v) ∷ []) (take (length es - at) (drop at es))
-      ∙ ap (λ l. take at es ++ (k, v) ∷ l) (take_rest es at) ∙ sym (by at is other)
-    where
-      by : (at : ℕ) → at ≡ prefix_len (is_upto cmp k) es → (0 < at → (x : K × X) × (slice_get es (at - 1) ≡ Some x) × (is_eq (cmp k x.0) ≡ false)) → insert_entry cmp es k v ≡ take at es ++ (k, v) ∷ drop at es
-      by zero is other = insert_high o k v es (place_none o k es up is)
-      by (suc i) is other =
-          let h = other (omega arith) in
-          let n : suc i - 1 ≡ i = omega arith in
-          put_beside k v es i h.0 (subst (λ j. Around k es j h.0) n (around k es (suc i) h.0 up (omega arith) is h.1)) h.2
+      ∙ ap (λ l. take at es ++ (k, v) ∷ l) (take_rest es at) ∙ sym (put_new_is k v es at up is other)
 
   pub cut_there : (k : K) (es : List (K × X)) (at : ℕ) (x : K × X) (n : ℕ) (r0 r1 r2 : List (K × X)) → n ≡ length es → IsRising cmp es → 0 < at → at ≡ prefix_len (is_upto cmp k) es → slice_get es (at - 1) ≡ Some x
       → is_eq (cmp k x.0) ≡ true → r0 ≡ [] → r1 ≡ r0 ++ take (at - 1 - 0) (drop 0 es) → r2 ≡ r1 ++ take (n - at) (drop at es) → r2 ≡ remove_entry (is_at (cmp k)) es
@@ -108,19 +127,10 @@ module _ {K X : Type 0} {cmp : K → K → Ordering} (o : IsTotalOrder cmp) wher
       let a = around k es at x up some is got in
       let f : r1 ≡ take i es = e1 ∙ ap (λ l. l ++ take (at - 1 - 0) (drop 0 es)) e0 ∙ front_is es i in
       e2 ∙ ap (λ l. l ++ take (length es - at) (drop at es)) f ∙ ap (λ l. take i es ++ l) (take_rest es at ∙ ap (λ m. drop m es) (sym n))
-      ∙ sym (ap (remove_entry (is_at (cmp k))) a.split ∙ remove_past o k (take i es) (x ∷ drop (suc i) es) a.low ∙ ap (λ b. take i es ++ cond b (drop (suc i) es) (x ∷ remove_entry (is_at (cmp k)) (drop (suc i) es))) e)
+      ∙ sym (cut_there_is k es i x a e)
 
   pub cut_none : (k : K) (es : List (K × X)) (at : ℕ) (n : ℕ) (r0 r1 : List (K × X)) → n ≡ length es → IsRising cmp es → at ≡ prefix_len (is_upto cmp k) es
       → (0 < at → (x : K × X) × (slice_get es (at - 1) ≡ Some x) × (is_eq (cmp k x.0) ≡ false)) → r0 ≡ [] → r1 ≡ r0 ++ take (n - 0) (drop 0 es) → r1 ≡ remove_entry (is_at (cmp k)) es
   cut_none k es at m r0 r1 ml up is other e0 e1' =
       let e1 = e1' ∙ ap (λ m. r0 ++ take (m - 0) (drop 0 es)) ml in
-      e1 ∙ ap (λ l. l ++ take (length es - 0) (drop 0 es)) e0 ∙ take_rest es 0 ∙ sym (by at is other)
-    where
-      by : (at : ℕ) → at ≡ prefix_len (is_upto cmp k) es → (0 < at → (x : K × X) × (slice_get es (at - 1) ≡ Some x) × (is_eq (cmp k x.0) ≡ false)) → remove_entry (is_at (cmp k)) es ≡ es
-      by zero is other = remove_high o k es (place_none o k es up is)
-      by (suc i) is other =
-          let h = other (omega arith) in
-          let a = around k es (suc i) h.0 up (omega arith) is h.1 in
-          ap (remove_entry (is_at (cmp k))) a.split ∙ remove_past o k (take (suc i - 1) es) (h.0 ∷ drop (suc (suc i - 1)) es) a.low
-          ∙ ap (λ b. take (suc i - 1) es ++ cond b (drop (suc (suc i - 1)) es) (h.0 ∷ remove_entry (is_at (cmp k)) (drop (suc (suc i - 1)) es))) h.2
-          ∙ ap (λ l. take (suc i - 1) es ++ h.0 ∷ l) (remove_high o k (drop (suc (suc i - 1)) es) a.high) ∙ sym a.split
+      e1 ∙ ap (λ l. l ++ take (length es - 0) (drop 0 es)) e0 ∙ take_rest es 0 ∙ sym (cut_none_is k es at up is other)

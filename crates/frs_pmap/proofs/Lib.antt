@@ -4,3 +4,10 @@ pub mod Leaves
 pub mod Parts
 pub mod Firsts
 pub mod Ranges
+pub mod Joins
+pub mod Counts
+pub mod Absorbs
+pub mod Slots
+pub mod Tables
+pub mod Changes
+pub mod Shares

@@ -1,5 +1,5 @@
 -- Entries in parts: which part a key is in, and what a change of that part makes of the whole.
-use Rattle.std.proofs.Common.{◌≡◌, ◌∙◌, ◌+◌, ◌-◌, ◌<◌, ◌≤◌, ℕ, Bool, true, false, cond, List, [], ◌∷◌, ◌++◌, Option, Some, None, refl, sym, ap, subst, suc, zero, length, take, drop, arith, append_assoc}
+use Rattle.std.proofs.Common.{◌≡◌, ◌∙◌, ◌+◌, ◌-◌, ◌<◌, ℕ, true, List, [], ◌∷◌, ◌++◌, Some, refl, sym, ap, subst, suc, zero, length, take, drop, arith}
 use Rattle.std.specs.Prelude.{slice_get}
 use Rattle.std.specs.List.{AllByRecursion, flat_map, prefix_len}
 use Rattle.std.proofs.lemmas.Grind.{flat_map-append}
@@ -7,11 +7,11 @@ use Rattle.std.proofs.lemmas.List.{take-append-drop}
 use Rattle.std.specs.Cmp.{IsTotalOrder}
 use Rattle.std.specs.Ordering.{is_le}
 use Rattle.std.specs.declared.cmp.Ordering.{Ordering}
-use Rattle.std.specs.declared.cmp.Ordering.TheVariants.{Less, Equal, Greater}
+use Rattle.std.specs.declared.cmp.Ordering.TheVariants.{Less}
 use Rattle.std.specs.Map.{lookup, remove_entry}
 use Rattle.std.specs.BTreeMap.{insert_entry, is_at}
 use Rattle.frs_pmap.specs.Entries.{IsRising, is_upto}
-use Rattle.frs_pmap.specs.Trees.{AreHeaded, HasHead, IsPieces, flat}
+use Rattle.frs_pmap.specs.Trees.{AreHeaded, HasHead, flat}
 use Rattle.frs_pmap.proofs.Orders.{AllHigh, AllLow, all_back, all_front, all_join, at_get, high_from_first, insert_before, insert_past, lookup_before, lookup_past, low_before, place_none, place_some, remove_before, remove_past, rising_back, rising_front}
 
 module _ {K V P : Type 0} {cmp : K → K → Ordering} (o : IsTotalOrder cmp) (f : P → List (K × V)) where

@@ -1,5 +1,5 @@
 -- Where a binary search ends.
-use Rattle.std.proofs.Common.{◌≡◌, ◌∙◌, ◌+◌, ◌<◌, ◌≤◌, ℕ, Bool, true, false, cond, List, [], ◌∷◌, refl, sym, ap, subst, suc, zero, length, get_or, arith, ◌++◌, ◌-◌, take, drop, map, append_assoc}
+use Rattle.std.proofs.Common.{◌≡◌, ◌∙◌, ◌+◌, ◌<◌, ◌≤◌, ℕ, Bool, true, false, cond, List, [], ◌∷◌, refl, sym, ap, suc, zero, length, get_or, arith, ◌++◌, ◌-◌, take, drop, map, append_assoc}
 use Rattle.std.proofs.lemmas.List.{get_or-drop, length-drop, length-map, take_more}
 use Rattle.std.specs.List.{AllByRecursion, prefix_len}
 use Rattle.std.specs.List.Sorted.{IsPartitionedBy, IsPartitionPoint}

@@ -1,14 +1,13 @@
 -- The entries from a key on, one by one.
-use Rattle.std.proofs.Common.{◌≡◌, ◌∙◌, ◌+◌, ◌<◌, ◌≤◌, ℕ, Bool, true, false, cond, List, [], ◌∷◌, ◌++◌, Some, None, refl, sym, ap, subst, suc, zero, length, map, take, drop, arith}
+use Rattle.std.proofs.Common.{◌≡◌, ◌∙◌, ◌+◌, ◌≤◌, ℕ, Bool, true, false, cond, List, [], ◌∷◌, ◌++◌, Some, None, refl, sym, ap, subst, suc, zero, map, take, arith}
 use Rattle.std.specs.Prelude.{Option, filter, find, option_map, slice_get}
-use Rattle.std.proofs.lemmas.List.{take_all}
 use Rattle.std.specs.List.{AllByRecursion}
-use Rattle.std.specs.Cmp.{IsTotalOrder, tied_itself}
+use Rattle.std.specs.Cmp.{IsTotalOrder}
 use Rattle.std.specs.Ordering.{is_le, is_lt}
 use Rattle.std.specs.declared.cmp.Ordering.{Ordering}
 use Rattle.std.specs.declared.cmp.Ordering.TheVariants.{Less, Equal, Greater}
-use Rattle.frs_pmap.specs.Entries.{IsRising, first_above, first_from, is_above, is_from, keys_from}
-use Rattle.frs_pmap.proofs.Orders.{AllHigh, high_from_first, less_le, turned}
+use Rattle.frs_pmap.specs.Entries.{IsRising, is_above, is_from}
+use Rattle.frs_pmap.proofs.Orders.{AllHigh, high_from_first, turned}
 
 -- the first that meets a test is the first of those that do
 pub find_first : {X : Type 0} (p : X → Bool) (es : List X) → find p es ≡ slice_get (filter p es) 0

@@ -1,9 +1,10 @@
 -- Entries in order of their keys.
-use Rattle.std.specs.Prelude.{◌≡◌, List, [], ◌∷◌, Bool, Option, cond, filter, find, map, take, ℕ}
+use Rattle.std.specs.Prelude.{◌≡◌, List, [], ◌∷◌, Bool, Option, cond, filter, find, map, option_map, take, ℕ}
 use Rattle.std.specs.Ordering.{is_le, is_lt}
 use Rattle.std.specs.declared.cmp.Ordering.{Ordering}
 use Rattle.std.specs.declared.cmp.Ordering.TheVariants.{Less}
 use Rattle.std.specs.List.{AllByRecursion}
+use Rattle.std.specs.Borrow.{Bor}
 use Rattle.std.specs.Arc.{arc_value}
 use Rattle.std.specs.declared.sync.Arc.{Arc}
 use Rattle.std.specs.declared.alloc.Global.{Global}
@@ -16,6 +17,10 @@ IsRising cmp [] = Unit {0}
 IsRising cmp (e ∷ es) = AllByRecursion (λ f. cmp e.0 f.0 ≡ Less) es × IsRising cmp es
 
 -- ---- what is asked of a map
+
+-- an entry that is lent
+abbrev pub lent : {K V : Type 0} → Option (K × Bor V) → Option (K × V)
+lent entry = option_map (λ e. (e.0, e.1.now)) entry
 
 -- the value at a key
 abbrev pub value_at : {K X : Type 0} → (K → K → Ordering) → K → List (K × X) → Option X
@@ -64,6 +69,10 @@ is_below cmp key e = is_lt (cmp e.0 key)
 -- the entry's key is above a key, or not below it
 abbrev pub is_beyond : {K X : Type 0} → (K → K → Ordering) → Bool → K → K × X → Bool
 is_beyond cmp past key e = cond past (is_above cmp key e) (is_from cmp key e)
+
+-- the first entry above a key, or not below it
+abbrev pub first_beyond : {K X : Type 0} → (K → K → Ordering) → Bool → K → List (K × X) → Option (K × X)
+first_beyond cmp past key es = find (is_beyond cmp past key) es
 
 -- a key with what its shared value is
 abbrev pub seen_one : {K P : Type 0} → K × Arc P Global → K × P

@@ -1,2 +1,4 @@
 pub mod Entries
 pub mod Trees
+pub mod Nodes
+pub mod Stocks

@@ -40,6 +40,11 @@ pub record IsPieces {K P : Type 0} (row : List (K × P)) (parts : List (K × Lis
   pub flat : flat parts ≡ row
   pub headed : AreHeaded parts
 
+-- parts that hold what others held
+pub record IsJoined {K X : Type 0} (parts joined : List (K × List (K × X))) : Type 0 where
+  pub flat : flat joined ≡ flat parts
+  pub headed : AreHeaded parts → AreHeaded joined
+
 -- the root's parts: none where there is no root
 abbrev pub tree_of : {K V : Type 0} → Option (Arc (List (K × List (K × List (K × V)))) Global) → List (K × List (K × List (K × V)))
 tree_of None = []

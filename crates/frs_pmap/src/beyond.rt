@@ -1,6 +1,6 @@
 // The first entry at a key or above it.
-ghost use Rattle.std.specs.Prelude.{◌≡◌, ◌<◌, drop, find, length, option_map, slice_get};
-ghost use Rattle.frs_pmap.specs.Entries.{IsRising, is_beyond};
+ghost use Rattle.std.specs.Prelude.{◌≡◌, ◌<◌, drop, length, slice_get};
+ghost use Rattle.frs_pmap.specs.Entries.{IsRising, first_beyond, lent};
 ghost use Rattle.frs_pmap.specs.Trees.{AreHeaded, IsBranch, IsTree, entries_of, flat};
 
 use crate::middle::part_of;
@@ -13,7 +13,7 @@ fn leaf_beyond<'a, K: Ord + Copy, V: Drop>(
     past: bool,
 ) -> Option<(K, &'a V)>
     requires { IsRising K.cmp leaf.now }
-    ensures { option_map (λ e. (e.0, e.1.now)) result ≡ find (is_beyond K.cmp past key.now) leaf.now }
+    ensures { lent result ≡ first_beyond K.cmp past key.now leaf.now }
 {
     let at = leaf.beyond(key, past);
     if at >= leaf.len() {
@@ -28,7 +28,7 @@ pub(crate) fn middle_first<'a, K: Ord + Copy, V: Drop>(
     at: usize,
 ) -> Option<(K, &'a V)>
     requires { AreHeaded middle.now }
-    ensures { option_map (λ e. (e.0, e.1.now)) result ≡ slice_get (flat (drop at middle.now)) 0 }
+    ensures { lent result ≡ slice_get (flat (drop at middle.now)) 0 }
 {
     if at >= middle.len() {
         return None;
@@ -45,7 +45,7 @@ fn middle_beyond<'a, K: Ord + Copy, V: Drop>(
 ) -> Option<(K, &'a V)>
     requires branch { IsBranch K.cmp middle.now }
     requires some { 0 < length middle.now }
-    ensures { option_map (λ e. (e.0, e.1.now)) result ≡ find (is_beyond K.cmp past key.now) (flat middle.now) }
+    ensures { lent result ≡ first_beyond K.cmp past key.now (flat middle.now) }
 {
     let _len = middle.len();
     let at = part_of(middle, key);
@@ -63,7 +63,7 @@ pub(crate) fn root_first<'a, K: Ord + Copy, V: Drop>(
     at: usize,
 ) -> Option<(K, &'a V)>
     requires { IsTree K.cmp root.now }
-    ensures { option_map (λ e. (e.0, e.1.now)) result ≡ slice_get (entries_of (drop at root.now)) 0 }
+    ensures { lent result ≡ slice_get (entries_of (drop at root.now)) 0 }
 {
     if at >= root.len() {
         return None;
@@ -79,7 +79,7 @@ pub(crate) fn root_beyond<'a, K: Ord + Copy, V: Drop>(
     past: bool,
 ) -> Option<(K, &'a V)>
     requires { IsTree K.cmp root.now }
-    ensures { option_map (λ e. (e.0, e.1.now)) result ≡ find (is_beyond K.cmp past key.now) (entries_of root.now) }
+    ensures { lent result ≡ first_beyond K.cmp past key.now (entries_of root.now) }
 {
     if root.len() == 0 {
         return None;

@@ -1,10 +1,11 @@
 // Finite maps whose copies share memory.
-ghost use Rattle.std.specs.Prelude.{◌≡◌, [], IfOk, find, option_copied, option_map, slice_get};
-ghost use Rattle.frs_pmap.specs.Entries.{IsRising, cut_at, first_above, first_from, is_beyond, keys_from, put_at, value_at};
+ghost use Rattle.std.specs.Prelude.{◌≡◌, ◌↔◌, [], IfOk, IsTrue, length, min, option_copied, option_map, slice_get};
+ghost use Rattle.frs_pmap.specs.Entries.{IsRising, cut_at, first_above, first_beyond, first_from, keys_from, lent, put_at, value_at};
 ghost use Rattle.frs_pmap.specs.Trees.{IsTree, entries_of};
 ghost use Rattle.std.specs.Arc.{arc_value};
 
 use crate::beyond::{root_beyond, root_first};
+use crate::lengths::root_len;
 use crate::root::{root_get, root_of_one, root_with, root_without};
 use crate::row::Root;
 use std::alloc::{AllocError, Global};
@@ -62,6 +63,23 @@ impl<K: Ord + Copy, V: Drop> Pmap<K, V> {
         }
     }
 
+    /// How many entries there are, or the most that a `usize` tells.
+    pub fn len(&self) -> usize
+        ensures { result ≡ min (length self.now) usize.MAX }
+    {
+        match &self.root {
+            None => 0,
+            Some(root) => root_len(root),
+        }
+    }
+
+    /// Whether there are none.
+    pub fn is_empty(&self) -> bool
+        ensures { IsTrue result ↔ (self.now ≡ []) }
+    {
+        self.first().is_none()
+    }
+
     /// The value at a key.
     pub fn get(&self, key: &K) -> Option<&V>
         ensures value { option_copied result ≡ value_at K.cmp key.now self.now }
@@ -75,7 +93,7 @@ impl<K: Ord + Copy, V: Drop> Pmap<K, V> {
 
     /// The first entry.
     pub fn first(&self) -> Option<(K, &V)>
-        ensures first { option_map (λ e. (e.0, e.1.now)) result ≡ slice_get self.now 0 }
+        ensures first { lent result ≡ slice_get self.now 0 }
         ensures rising { IsRising K.cmp self.now }
     {
         match &self.root {
@@ -86,7 +104,7 @@ impl<K: Ord + Copy, V: Drop> Pmap<K, V> {
 
     /// The first entry at a key or above it.
     pub fn at_or_above(&self, key: &K) -> Option<(K, &V)>
-        ensures first { option_map (λ e. (e.0, e.1.now)) result ≡ first_from K.cmp key.now self.now }
+        ensures first { lent result ≡ first_from K.cmp key.now self.now }
         ensures rising { IsRising K.cmp self.now }
     {
         match &self.root {
@@ -97,7 +115,7 @@ impl<K: Ord + Copy, V: Drop> Pmap<K, V> {
 
     /// The first entry above a key.
     pub fn above(&self, key: &K) -> Option<(K, &V)>
-        ensures first { option_map (λ e. (e.0, e.1.now)) result ≡ first_above K.cmp key.now self.now }
+        ensures first { lent result ≡ first_above K.cmp key.now self.now }
         ensures rising { IsRising K.cmp self.now }
     {
         match &self.root {
@@ -108,7 +126,7 @@ impl<K: Ord + Copy, V: Drop> Pmap<K, V> {
 
     /// The first key above another, or, unless `past`, not below it.
     fn key_beyond(&self, key: &K, past: bool) -> Option<K>
-        ensures key { result ≡ option_map (λ e. e.0) (find (is_beyond K.cmp past key.now) self.now) }
+        ensures key { result ≡ option_map (λ e. e.0) (first_beyond K.cmp past key.now self.now) }
         ensures rising { IsRising K.cmp self.now }
     {
         match &self.root {

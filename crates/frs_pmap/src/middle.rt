@@ -4,6 +4,7 @@ ghost use Rattle.std.specs.List.{prefix_len};
 ghost use Rattle.frs_pmap.specs.Entries.{IsRising, cut_at, is_upto, put_at, value_at};
 ghost use Rattle.frs_pmap.specs.Trees.{AreHeaded, IsBranch, IsPieces, flat};
 
+use crate::join::joined_around;
 use crate::leaf::{leaf_get, leaf_with, leaf_without};
 use crate::row::{MOST, Middle, Row};
 use std::alloc::{AllocError, Global};
@@ -108,6 +109,7 @@ pub(crate) fn middle_without<K: Ord + Copy, V: Drop>(
     let at = part_of(middle, key);
     let (_, leaf) = middle.item(at);
     let parts = pieces(alloc, leaf_without(alloc, leaf, key)?)?;
-    let out = spliced(alloc, middle, at, &parts)?;
+    let less = spliced(alloc, middle, at, &parts)?;
+    let out = joined_around(alloc, less, at)?;
     Ok(out)
 }

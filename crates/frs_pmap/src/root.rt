@@ -3,6 +3,7 @@ ghost use Rattle.std.specs.Prelude.{◌≡◌, [], ◌∷◌, IfOk, option_copie
 ghost use Rattle.frs_pmap.specs.Entries.{cut_at, put_at, value_at};
 ghost use Rattle.frs_pmap.specs.Trees.{IsTree, entries_of};
 
+use crate::join::joined_around;
 use crate::middle::{middle_get, middle_with, middle_without, part_of, pieces, spliced};
 use crate::row::{Root, Row};
 use std::alloc::{AllocError, Global};
@@ -45,7 +46,8 @@ pub(crate) fn root_with<K: Ord + Copy, V: Drop>(
     value: V,
 ) -> Result<Root<K, V>, AllocError>
     requires { IsTree K.cmp root.now }
-    ensures put { IfOk result (λ row. entries_of row ≡ put_at K.cmp key value (entries_of root.now)) }
+    ensures put { IfOk result
+        (λ row. entries_of row ≡ put_at K.cmp key value (entries_of root.now)) }
     ensures tree { IfOk result (IsTree K.cmp) }
 {
     if root.len() == 0 {
@@ -75,6 +77,7 @@ pub(crate) fn root_without<K: Ord + Copy, V: Drop>(
     let at = part_of(root, key);
     let (_, middle) = root.item(at);
     let parts = pieces(alloc, middle_without(alloc, middle, key)?)?;
-    let out = spliced(alloc, root, at, &parts)?;
+    let less = spliced(alloc, root, at, &parts)?;
+    let out = joined_around(alloc, less, at)?;
     Ok(out)
 }

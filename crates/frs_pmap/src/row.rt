@@ -11,6 +11,9 @@ use std::sync::Arc;
 /// The most keys of a row.
 pub(crate) const MOST: usize = 64;
 
+/// Two rows beside each other with so many keys at most, together, are joined.
+pub(crate) const FEW: usize = MOST / 2;
+
 /// Entries in one row.
 pub(crate) type Leaf<K, V> = Row<K, V>;
 

@@ -1,6 +1,8 @@
 // What no contract says: that the calls succeed, also in maps of many rows.
 use super::*;
 use std::alloc::Global;
+use std::process::Abort;
+use std::sync::Arc;
 use std::test::Fail;
 
 /// A map of these keys, each with ten times itself.
@@ -71,4 +73,81 @@ fn many_keys_come_and_go(rt: HostRuntime) -> Result<(), Fail> {
         [8_996, 8_998].as_slice()
     );
     Ok(())
+}
+
+/// Puts ten times itself at a key of a table.
+fn put_one(alloc: Global, table: &mut Table<u64, u64>, key: u64) -> Result<(), Fail> {
+    let value = Arc::new(alloc, key.wrapping_mul(10))?;
+    table.reserve(alloc)?;
+    table.put(key, value);
+    Ok(())
+}
+
+/// The keys of a table, so many at most.
+fn keys_of(alloc: Global, table: &mut Table<u64, u64>, most: usize) -> Result<Vec<u64>, Fail> {
+    Ok(table.share(alloc)?.range(alloc, &0, most)?)
+}
+
+#[test]
+fn a_table_hands_out_maps(rt: HostRuntime) -> Result<(), Fail> {
+    let alloc = rt.alloc();
+    let mut table = Table::empty();
+    for key in [5, 1, 3, 9] {
+        put_one(alloc, &mut table, key)?;
+    }
+    let before = table.share(alloc)?;
+    table.cut(&3);
+    put_one(alloc, &mut table, 7)?;
+    assert_eq!(rt; table.get(&3), None);
+    assert_eq!(rt; table.get(&7), Some(&70));
+    assert_eq!(rt; table.first().map(|e| e.0), Some(1));
+    assert_eq!(rt; table.at_or_above(&6).map(|e| e.0), Some(7));
+    assert_eq!(rt; table.above(&9).map(|e| e.0), None);
+    assert_eq!(rt; table.len(), 4);
+    assert_eq!(rt;
+        before.range(alloc, &0, 9)?.as_slice(),
+        [1, 3, 5, 9].as_slice()
+    );
+    assert_eq!(rt;
+        keys_of(alloc, &mut table, 9)?.as_slice(),
+        [1, 5, 7, 9].as_slice()
+    );
+    assert_eq!(rt; before.len(), 4);
+    assert!(rt; !before.is_empty(), "four entries");
+    Ok(())
+}
+
+/// Puts many keys into a table, cuts half of them, and shares it now and then.
+fn try_many(rt: &impl Abort, alloc: Global, table: &mut Table<u64, u64>) -> Result<(), Fail> {
+    for key in 0..9_000u64 {
+        put_one(alloc, table, key.wrapping_mul(7) % 9_000)?;
+    }
+    let all = table.share(alloc)?;
+    for key in 0..9_000u64 {
+        if key % 2 == 1 {
+            table.cut(&key);
+        }
+        if key % 1_000 == 999 {
+            let _ = table.share(alloc)?;
+        }
+    }
+    let half = table.share(alloc)?;
+    assert_eq!(rt; (all.len(), half.len()), (9_000, 4_500));
+    for key in 0..9_000u64 {
+        let value = key.wrapping_mul(10);
+        assert_eq!(rt; all.get(&key), Some(&value), "{key} in all");
+        assert_eq!(rt; half.get(&key).is_some(), key % 2 == 0, "{key} in half");
+        assert_eq!(rt;
+            table.get(&key).is_some(),
+            key % 2 == 0,
+            "{key} in the table"
+        );
+    }
+    Ok(())
+}
+
+#[test]
+fn a_table_of_many_keys(rt: HostRuntime) -> Result<(), Fail> {
+    let alloc = rt.alloc();
+    try_many(&rt, alloc, &mut Table::empty())
 }

@@ -1,9 +1,7 @@
-use Rattle.std.proofs.Common.{◌≡◌, ◌∙◌, List, sym, ap, arith, Some, None, Bor}
-use Rattle.std.specs.Prelude.{slice_get}
-use Rattle.std.proofs.lemmas.Option.{slice_get_past}
-use Rattle.frs_pmap.specs.Trees.{AreHeaded, HasHead, flat}
-use Rattle.frs_pmap.proofs.Parts.{at_one, between, lows_rising}
-use Rattle.frs_pmap.proofs.Firsts.{first_past, first_there, found_here, found_later}
+use Rattle.std.proofs.Common.{◌∙◌, List, sym}
+use Rattle.frs_pmap.specs.Trees.{HasHead}
+use Rattle.frs_pmap.proofs.Parts.{at_one}
+use Rattle.frs_pmap.proofs.Firsts.{first_there}
 use Rattle.frs_pmap.proofs.beyond.middle_first.Goals as goal
 
 pub returns : goal.returns

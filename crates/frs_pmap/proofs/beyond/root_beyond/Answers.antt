@@ -1,8 +1,7 @@
-use Rattle.std.proofs.Common.{◌≡◌, ◌∙◌, ◌<◌, List, sym, ap, arith, Some, None, Bor, length}
-use Rattle.std.specs.Prelude.{slice_get}
+use Rattle.std.proofs.Common.{◌∙◌, List, sym, Bor}
 use Rattle.frs_pmap.specs.Trees.{AreHeaded, HasHead, flat}
-use Rattle.frs_pmap.proofs.Parts.{at_one, between, deep_head, deep_heads, head_some, lows_rising}
-use Rattle.frs_pmap.proofs.Firsts.{first_past, first_there, found_here, found_later}
+use Rattle.frs_pmap.proofs.Parts.{at_one, between, deep_heads, head_some, lows_rising}
+use Rattle.frs_pmap.proofs.Firsts.{found_here, found_later}
 use Rattle.frs_pmap.proofs.beyond.root_beyond.Goals as goal
 
 pub part_of-at-requires-clause-rising : goal.part_of-at-requires-clause-rising

@@ -1,7 +1,6 @@
-use Rattle.std.proofs.Common.{◌≡◌, ◌∙◌, ◌<◌, ◌-◌, sym, ap, arith, true, false, Some}
-use Rattle.std.specs.Prelude.{slice_get}
+use Rattle.std.proofs.Common.{◌∙◌, sym, ap, arith}
 use Rattle.std.specs.Ordering.{is_eq}
-use Rattle.frs_pmap.proofs.Leaves.{around, cut_none, cut_there, get_beside, get_none, get_there, put_new, put_over}
+use Rattle.frs_pmap.proofs.Leaves.{put_new, put_over}
 use Rattle.frs_pmap.proofs.leaf.leaf_with.Goals as goal
 use Rattle.frs_pmap.proofs.leaf.leaf_with.Goals.{then-at-gt0+else-is_eq, else-at-gt0}
 

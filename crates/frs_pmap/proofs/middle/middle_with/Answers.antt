@@ -1,7 +1,6 @@
-use Rattle.std.proofs.Common.{◌≡◌, ◌∙◌, ◌<◌, ◌-◌, List, sym, ap, subst, arith}
-use Rattle.frs_pmap.specs.Entries.{IsRising}
-use Rattle.frs_pmap.specs.Trees.{AreHeaded, HasHead, IsPieces, IsTree, flat}
-use Rattle.frs_pmap.proofs.Parts.{Between, all_joined, at_one, between, cut_part, deep_heads, flat_flat, get_part, head_some, lows_rising, pieces_headed, put_part}
+use Rattle.std.proofs.Common.{◌∙◌, List}
+use Rattle.frs_pmap.specs.Trees.{HasHead}
+use Rattle.frs_pmap.proofs.Parts.{all_joined, between, lows_rising, put_part}
 use Rattle.frs_pmap.proofs.middle.middle_with.Goals as goal
 
 pub part_of-at-requires-clause-rising : goal.part_of-at-requires-clause-rising

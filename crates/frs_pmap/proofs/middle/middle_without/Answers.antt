@@ -1,7 +1,6 @@
-use Rattle.std.proofs.Common.{◌≡◌, ◌∙◌, ◌<◌, ◌-◌, List, sym, ap, subst, arith}
-use Rattle.frs_pmap.specs.Entries.{IsRising}
-use Rattle.frs_pmap.specs.Trees.{AreHeaded, HasHead, IsPieces, IsTree, flat}
-use Rattle.frs_pmap.proofs.Parts.{Between, all_joined, at_one, between, cut_part, deep_heads, flat_flat, get_part, head_some, lows_rising, pieces_headed, put_part}
+use Rattle.std.proofs.Common.{◌∙◌, List}
+use Rattle.frs_pmap.specs.Trees.{HasHead}
+use Rattle.frs_pmap.proofs.Parts.{all_joined, between, cut_part, lows_rising}
 use Rattle.frs_pmap.proofs.middle.middle_without.Goals as goal
 
 pub part_of-at-requires-clause-rising : goal.part_of-at-requires-clause-rising
@@ -17,7 +16,8 @@ pub returns-clause-cut : goal.returns-clause-cut
 returns-clause-cut g c =
     let part : g.row.K.Denot × List (g.row.K.Denot × g.row.V.Denot) = (c.item.result.0, c.item.result.1.now) in
     let b = between g.met.K.Ord.total (λ (x : List (g.row.K.Denot × g.row.V.Denot)). x) c.args.key.now c.args.middle.now c.part_of-at.result part c.requires.branch.rising c.requires.branch.headed c.part_of-at.ensures.part c.item.ensures in
-    cut_part g.met.K.Ord.total (λ (x : List (g.row.K.Denot × g.row.V.Denot)). x) c.args.key.now c.args.middle.now c.in_ok-parts.parts c.in_ok-out.out c.part_of-at.result part b c.in_ok-out.ensures (c.in_ok-parts.ensures.flat ∙ c.in_ok-leaf_without.ensures)
+    c.in_ok-out.ensures.flat ∙ cut_part g.met.K.Ord.total (λ (x : List (g.row.K.Denot × g.row.V.Denot)). x) c.args.key.now c.args.middle.now c.in_ok-parts.parts c.in_ok-less.less c.part_of-at.result part b c.in_ok-less.ensures (c.in_ok-parts.ensures.flat ∙ c.in_ok-leaf_without.ensures)
 
 pub returns-clause-headed : goal.returns-clause-headed
-returns-clause-headed g c = all_joined (λ (p : g.row.K.Denot × List (g.row.K.Denot × g.row.V.Denot)). HasHead p.0 p.1) c.args.middle.now c.in_ok-parts.parts c.in_ok-out.out c.part_of-at.result c.requires.branch.headed c.in_ok-parts.ensures.headed c.in_ok-out.ensures
+returns-clause-headed g c =
+    c.in_ok-out.ensures.headed (all_joined (λ (p : g.row.K.Denot × List (g.row.K.Denot × g.row.V.Denot)). HasHead p.0 p.1) c.args.middle.now c.in_ok-parts.parts c.in_ok-less.less c.part_of-at.result c.requires.branch.headed c.in_ok-parts.ensures.headed c.in_ok-less.ensures)

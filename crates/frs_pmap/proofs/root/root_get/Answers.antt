@@ -1,7 +1,6 @@
-use Rattle.std.proofs.Common.{◌≡◌, ◌∙◌, ◌<◌, ◌-◌, List, sym, ap, subst, arith}
-use Rattle.frs_pmap.specs.Entries.{IsRising}
-use Rattle.frs_pmap.specs.Trees.{AreHeaded, HasHead, IsPieces, IsTree, flat}
-use Rattle.frs_pmap.proofs.Parts.{Between, all_joined, at_one, between, cut_part, deep_heads, flat_flat, get_part, head_some, lows_rising, pieces_headed, put_part}
+use Rattle.std.proofs.Common.{◌∙◌, List, sym}
+use Rattle.frs_pmap.specs.Trees.{AreHeaded, HasHead, flat}
+use Rattle.frs_pmap.proofs.Parts.{at_one, between, deep_heads, get_part, head_some, lows_rising}
 use Rattle.frs_pmap.proofs.root.root_get.Goals as goal
 
 pub part_of-requires-clause-rising : goal.part_of-requires-clause-rising

@@ -1,9 +1,8 @@
-use Rattle.std.proofs.Common.{◌≡◌, ◌∙◌, ◌<◌, ◌-◌, List, sym, ap, subst, arith}
-use Rattle.std.specs.BTreeMap.{is_at}
+use Rattle.std.proofs.Common.{◌∙◌, List, sym, ap, subst}
 use Rattle.frs_pmap.specs.Entries.{IsRising}
-use Rattle.frs_pmap.proofs.Orders.{rising_less, rising_put}
-use Rattle.frs_pmap.specs.Trees.{AreHeaded, HasHead, IsPieces, IsTree, flat}
-use Rattle.frs_pmap.proofs.Parts.{Between, all_joined, at_one, between, cut_part, deep_heads, flat_flat, get_part, head_some, lows_rising, pieces_headed, put_part}
+use Rattle.frs_pmap.proofs.Orders.{rising_put}
+use Rattle.frs_pmap.specs.Trees.{AreHeaded, HasHead, flat}
+use Rattle.frs_pmap.proofs.Parts.{all_joined, at_one, between, deep_heads, flat_flat, head_some, lows_rising, pieces_headed, put_part}
 use Rattle.frs_pmap.proofs.root.root_with.Goals as goal
 
 pub part_of-at-requires-clause-rising : goal.part_of-at-requires-clause-rising

@@ -1,9 +1,10 @@
-use Rattle.std.proofs.Common.{◌≡◌, ◌∙◌, ◌<◌, ◌-◌, List, sym, ap, subst, arith}
+use Rattle.std.proofs.Common.{◌∙◌, List, sym, ap, subst}
 use Rattle.std.specs.BTreeMap.{is_at}
 use Rattle.frs_pmap.specs.Entries.{IsRising}
-use Rattle.frs_pmap.proofs.Orders.{rising_less, rising_put}
-use Rattle.frs_pmap.specs.Trees.{AreHeaded, HasHead, IsPieces, IsTree, flat}
-use Rattle.frs_pmap.proofs.Parts.{Between, all_joined, at_one, between, cut_part, deep_heads, flat_flat, get_part, head_some, lows_rising, pieces_headed, put_part}
+use Rattle.frs_pmap.proofs.Orders.{rising_less}
+use Rattle.frs_pmap.specs.Trees.{AreHeaded, HasHead, flat}
+use Rattle.frs_pmap.proofs.Parts.{all_joined, at_one, between, cut_part, deep_heads, flat_flat, head_some, lows_rising, pieces_headed}
+use Rattle.frs_pmap.proofs.Joins.{joined_entries, joined_middles}
 use Rattle.frs_pmap.proofs.root.root_without.Goals as goal
 
 pub part_of-at-requires-clause-rising : goal.part_of-at-requires-clause-rising
@@ -24,17 +25,17 @@ pub returns-clause-cut : goal.returns-clause-cut
 returns-clause-cut g c =
     let part : g.row.K.Denot × List (g.row.K.Denot × List (g.row.K.Denot × g.row.V.Denot)) = (c.item.result.0, c.item.result.1.now) in
     let b = between g.met.K.Ord.total (flat {K = g.row.K.Denot} {X = g.row.K.Denot × g.row.V.Denot}) c.args.key.now c.args.root.now c.part_of-at.result part c.requires.rising (deep_heads c.args.root.now c.requires.headed c.requires.middles) c.part_of-at.ensures.part c.item.ensures in
-    let same = cut_part g.met.K.Ord.total (flat {K = g.row.K.Denot} {X = g.row.K.Denot × g.row.V.Denot}) c.args.key.now c.args.root.now c.in_ok-parts.parts c.in_ok-out.out c.part_of-at.result part b c.in_ok-out.ensures (flat_flat c.in_ok-parts.parts ∙ ap flat c.in_ok-parts.ensures.flat ∙ c.in_ok-middle_without.ensures.cut) in
-    same
+    let same = cut_part g.met.K.Ord.total (flat {K = g.row.K.Denot} {X = g.row.K.Denot × g.row.V.Denot}) c.args.key.now c.args.root.now c.in_ok-parts.parts c.in_ok-less.less c.part_of-at.result part b c.in_ok-less.ensures (flat_flat c.in_ok-parts.parts ∙ ap flat c.in_ok-parts.ensures.flat ∙ c.in_ok-middle_without.ensures.cut) in
+    joined_entries c.in_ok-less.less c.in_ok-out.out c.in_ok-out.ensures ∙ same
 
 pub returns-clause-tree : goal.returns-clause-tree
 returns-clause-tree g c =
     let part : g.row.K.Denot × List (g.row.K.Denot × List (g.row.K.Denot × g.row.V.Denot)) = (c.item.result.0, c.item.result.1.now) in
     let b = between g.met.K.Ord.total (flat {K = g.row.K.Denot} {X = g.row.K.Denot × g.row.V.Denot}) c.args.key.now c.args.root.now c.part_of-at.result part c.requires.rising (deep_heads c.args.root.now c.requires.headed c.requires.middles) c.part_of-at.ensures.part c.item.ensures in
-    let same = cut_part g.met.K.Ord.total (flat {K = g.row.K.Denot} {X = g.row.K.Denot × g.row.V.Denot}) c.args.key.now c.args.root.now c.in_ok-parts.parts c.in_ok-out.out c.part_of-at.result part b c.in_ok-out.ensures (flat_flat c.in_ok-parts.parts ∙ ap flat c.in_ok-parts.ensures.flat ∙ c.in_ok-middle_without.ensures.cut) in
+    let same = cut_part g.met.K.Ord.total (flat {K = g.row.K.Denot} {X = g.row.K.Denot × g.row.V.Denot}) c.args.key.now c.args.root.now c.in_ok-parts.parts c.in_ok-less.less c.part_of-at.result part b c.in_ok-less.ensures (flat_flat c.in_ok-parts.parts ∙ ap flat c.in_ok-parts.ensures.flat ∙ c.in_ok-middle_without.ensures.cut) in
     record {
-      rising = subst (IsRising g.K.Ord.cmp) (sym same) (rising_less g.met.K.Ord.total (is_at (g.K.Ord.cmp c.args.key.now)) _ c.requires.rising);
-      headed = all_joined (λ (p : g.row.K.Denot × List (g.row.K.Denot × List (g.row.K.Denot × g.row.V.Denot))). HasHead p.0 p.1) c.args.root.now c.in_ok-parts.parts c.in_ok-out.out c.part_of-at.result c.requires.headed c.in_ok-parts.ensures.headed c.in_ok-out.ensures;
-      middles = all_joined (λ (p : g.row.K.Denot × List (g.row.K.Denot × List (g.row.K.Denot × g.row.V.Denot))). AreHeaded p.1) c.args.root.now c.in_ok-parts.parts c.in_ok-out.out c.part_of-at.result c.requires.middles
-          (pieces_headed c.in_ok-parts.parts (subst AreHeaded (sym c.in_ok-parts.ensures.flat) c.in_ok-middle_without.ensures.headed)) c.in_ok-out.ensures;
+      rising = subst (IsRising g.K.Ord.cmp) (sym (joined_entries c.in_ok-less.less c.in_ok-out.out c.in_ok-out.ensures ∙ same)) (rising_less g.met.K.Ord.total (is_at (g.K.Ord.cmp c.args.key.now)) _ c.requires.rising);
+      headed = c.in_ok-out.ensures.headed (all_joined (λ (p : g.row.K.Denot × List (g.row.K.Denot × List (g.row.K.Denot × g.row.V.Denot))). HasHead p.0 p.1) c.args.root.now c.in_ok-parts.parts c.in_ok-less.less c.part_of-at.result c.requires.headed c.in_ok-parts.ensures.headed c.in_ok-less.ensures);
+      middles = joined_middles c.in_ok-less.less c.in_ok-out.out c.in_ok-out.ensures (all_joined (λ (p : g.row.K.Denot × List (g.row.K.Denot × List (g.row.K.Denot × g.row.V.Denot))). AreHeaded p.1) c.args.root.now c.in_ok-parts.parts c.in_ok-less.less c.part_of-at.result c.requires.middles
+          (pieces_headed c.in_ok-parts.parts (subst AreHeaded (sym c.in_ok-parts.ensures.flat) c.in_ok-middle_without.ensures.headed)) c.in_ok-less.ensures);
     }

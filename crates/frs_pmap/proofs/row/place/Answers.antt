@@ -1,4 +1,4 @@
-use Rattle.std.proofs.Common.{◌≡◌, of_calls, rules}
+use Rattle.std.proofs.Common.{of_calls, rules}
 use Rattle.std.proofs.lemmas.Fn.{always_returns_same}
 use Rattle.frs_pmap.specs.Entries.{is_upto}
 use Rattle.frs_pmap.proofs.Places.{place_is, upto_first}

@@ -1,4 +1,4 @@
-use Rattle.std.proofs.Common.{◌≡◌, ◌∙◌, ◌+◌, ◌≤◌, ◌++◌, [], ◌∷◌, Some, None, ap, sym, arith, length, map, take}
+use Rattle.std.proofs.Common.{◌≡◌, ◌∙◌, ◌+◌, ◌++◌, [], ◌∷◌, Some, None, ap, sym, arith, length, map, take}
 use Rattle.std.specs.Prelude.{filter, option_map, slice_get}
 use Rattle.std.proofs.lemmas.List.{length-append}
 use Rattle.frs_pmap.specs.Entries.{is_from}

@@ -1,4 +1,4 @@
-use Rattle.std.proofs.Common.{◌≡◌, ◌∙◌, ap, sym, subst, cond}
+use Rattle.std.proofs.Common.{◌∙◌, ap, sym, subst}
 use Rattle.std.specs.Prelude.{find, slice_get}
 use Rattle.std.specs.List.{prefix_len}
 use Rattle.frs_pmap.specs.Entries.{IsRising, is_below, is_beyond, is_upto, seen}

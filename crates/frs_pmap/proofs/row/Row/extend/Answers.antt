@@ -1,4 +1,4 @@
-use Rattle.std.proofs.Common.{◌≡◌, ◌∙◌, ◌+◌, ◌-◌, ◌++◌, ◌<◌, [], ◌∷◌, ap, sym, arith, append_assoc, take, drop, length, refl}
+use Rattle.std.proofs.Common.{◌≡◌, ◌∙◌, ◌++◌, ◌<◌, [], ◌∷◌, ap, arith, length, refl}
 use Rattle.std.proofs.lemmas.List.{length-map, map-append}
 use Rattle.frs_pmap.specs.Entries.{seen, seen_one}
 use Rattle.frs_pmap.proofs.Places.{one_more}

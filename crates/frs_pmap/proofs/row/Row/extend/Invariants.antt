@@ -1,4 +1,4 @@
-use Rattle.std.proofs.Common.{◌≡◌, ◌++◌, ◌-◌, ◌≤◌, take, drop, length}
+use Rattle.std.proofs.Common.{◌≡◌, ◌++◌, ◌-◌, take, drop}
 use Rattle.frs_pmap.specs.Entries.{seen}
 use Rattle.frs_pmap.proofs.row.Row.extend.Given as goal
 

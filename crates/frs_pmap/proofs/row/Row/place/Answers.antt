@@ -1,4 +1,4 @@
-use Rattle.std.proofs.Common.{◌≡◌, ◌∙◌, ap, sym, length, arith, subst}
+use Rattle.std.proofs.Common.{◌∙◌, ap, sym, length, arith, subst}
 use Rattle.std.specs.List.{prefix_len}
 use Rattle.std.proofs.lemmas.List.{length-map}
 use Rattle.frs_pmap.specs.Entries.{IsRising, is_upto, seen, seen_one}

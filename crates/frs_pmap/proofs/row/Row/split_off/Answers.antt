@@ -1,6 +1,6 @@
-use Rattle.std.proofs.Common.{◌≡◌, ◌∙◌, ap, sym, take, drop, map}
+use Rattle.std.proofs.Common.{◌∙◌, ap, sym, take, drop, map}
 use Rattle.std.proofs.lemmas.List.{take-map}
-use Rattle.frs_pmap.specs.Entries.{seen, seen_one}
+use Rattle.frs_pmap.specs.Entries.{seen_one}
 use Rattle.frs_pmap.proofs.Places.{drop-map}
 use Rattle.frs_pmap.proofs.row.Row.split_off.Goals as goal
 

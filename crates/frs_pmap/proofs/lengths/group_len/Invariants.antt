@@ -1,0 +1,7 @@
+use Rattle.std.proofs.Common.{◌≡◌, ◌-◌, ◌^◌, length, take}
+use Rattle.std.specs.Prelude.{min}
+use Rattle.frs_pmap.specs.Nodes.{entries_in}
+use Rattle.frs_pmap.proofs.lengths.group_len.Given as goal
+
+abbrev pub invariant-loop-at : goal.invariant-loop-at
+invariant-loop-at g l = l.len ≡ min (length (entries_in (take l.at l.group.items.items))) (2 ^ 64 - 1)
