@@ -1,11 +1,18 @@
-use crate::{FrsDisk, Image, MemDisk, MemRack, Rack, ScriptDisk, cut_synced, write_synced};
+ghost use Rattle.std.specs.Prelude.{◌≡◌, IfOk, ◌≤◌, length, take};
+ghost use Rattle.frs_disk.specs.Moments.{seen_now};
+ghost use Rattle.frs_disk.specs.Sums.{HasSum};
+
+use crate::{Failed, FrsDisk, Image, MemDisk, MemRack, Rack, ScriptDisk, cut_synced, write_synced};
 use frs_base::Sum;
+use sha1::Sha1;
 use std::alloc::Global;
 use std::process::Abort;
 use std::test::Fail;
 
 /// A disk with these bytes, all of them synced.
-fn disk_of(alloc: Global, bytes: &[u8]) -> Result<MemDisk, Fail> {
+fn disk_of(alloc: Global, bytes: &[u8]) -> Result<MemDisk, Fail>
+    ensures { IfOk result (λ disk. seen_now disk.states ≡ bytes.now) }
+{
     let mut disk = MemDisk::new(alloc);
     disk.reserve(alloc, 2, bytes.len() as u64)?;
     write_synced(&mut disk, 0, bytes)?;
@@ -31,6 +38,26 @@ fn bytes_are_written_cut_and_read(rt: HostRuntime) -> Result<(), Fail> {
     write_synced(&mut disk, 0, b"go")?;
     assert_has(&rt, &mut disk, b"gon", 0)?;
     assert!(rt; !disk.found());
+    Ok(())
+}
+
+/// The first four bytes of the disk, known by their beginning and their sum.
+fn read_known(disk: &mut MemDisk, head: &[u8], sum: &Sum) -> Result<[u8; 4], Failed>
+    requires known { HasSum head.now sum.now.0 (take 4 (seen_now disk.old.states)) }
+    requires long { 4 ≤ length (seen_now disk.old.states) }
+{
+    let mut found = [0; 4];
+    disk.read_sum(0, &mut found, head, sum)?;
+    Ok(found)
+}
+
+#[test]
+fn bytes_are_read_by_their_sum(rt: HostRuntime) -> Result<(), Fail> {
+    let alloc = rt.alloc();
+    let mut disk = disk_of(alloc, b"form")?;
+    let sum = Sum(Sha1::digest(b"form"));
+    let found = read_known(&mut disk, b"fo", &sum)?;
+    assert_eq!(rt; found.as_slice(), b"form".as_slice());
     Ok(())
 }
 

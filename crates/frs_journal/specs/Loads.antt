@@ -1,5 +1,5 @@
 -- What two slots stand for.
-use Rattle.std.specs.Prelude.{ℕ, ◌≡◌, ◌≤◌, ◌+◌, ◌-◌, ◌∷◌, [], ◌++◌, ◌%◌, ◌⊎◌, ◌^◌, ◌<◌, List, length, map, Option}
+use Rattle.std.specs.Prelude.{ℕ, ◌≡◌, ◌≤◌, ◌+◌, ◌-◌, ◌∷◌, [], ◌++◌, ◌%◌, ◌⊎◌, ◌^◌, ◌<◌, Bool, true, false, List, length, map, Option}
 use Rattle.std.specs.Int.{from_le_bytes, w64}
 use Rattle.std.specs.List.{All}
 use Rattle.frs_base.specs.Machines.{Rules, Runs}
@@ -37,6 +37,11 @@ pub record Loads {S C : Type 0} (law : Rules S C) (state : S) (serial : ℕ) (a 
 abbrev pub LoadsStep : {S C : Type 0} → Rules S C → S → ℕ → C → List ℕ → List ℕ → Type 0
 LoadsStep {S = S} law state serial cmd a b =
     Loads law state serial a b ⊎ ((after : S) × law.step state cmd after × Loads law after ((serial + 1) % 2 ^ 64) a b)
+
+-- a load gives what a command makes of this state, or this state, by whether the command is on the disk
+abbrev pub LoadsLanded : {S C : Type 0} → Rules S C → S → ℕ → C → Bool → List ℕ → List ℕ → Type 0
+LoadsLanded {S = S} law state serial cmd true a b = (after : S) × law.step state cmd after × Loads law after ((serial + 1) % 2 ^ 64) a b
+LoadsLanded law state serial cmd false a b = Loads law state serial a b
 
 -- a load gives one of two states
 abbrev pub LoadsEither : {S C : Type 0} → Rules S C → S → ℕ → S → ℕ → List ℕ → List ℕ → Type 0

@@ -1,8 +1,12 @@
 -- What contracts see of a journal.
-use Rattle.std.specs.Prelude.{Bool, ℕ, ◌≡◌, List, Option, refl}
+use Rattle.std.specs.Prelude.{Bool, true, ℕ, ◌≡◌, ◌<◌, List, Option, Some, refl}
 use Rattle.std.specs.Coded.{Coded, code_by, coded×, coded_bool, coded_ℕ, coded_list}
+use Rattle.frs_base.specs.Machines.{Rules}
+use Rattle.frs_disk.specs.Alarms.{Alarm, Armed}
 use Rattle.frs_disk.specs.Crashes.{Crash}
-use Rattle.frs_journal.specs.Loads.{AnyMoment, NowLeaves}
+use Rattle.frs_disk.specs.Moments.{MayLeave, Now}
+use Rattle.frs_journal.specs.Gates.{lands}
+use Rattle.frs_journal.specs.Loads.{AnyMoment, LoadsLanded, NowLeaves}
 use Rattle.frs_journal.specs.Slots.{slot_a, slot_b}
 
 -- the machine, the disks of the current slot and of the other one, whether the current one is slot b, the current slot's length in bytes, the number of commands, and whether the journal is shut
@@ -37,6 +41,17 @@ AtMoments states Q old new = AnyMoment Q (states (disk_a old)) (states (disk_a n
 -- each two images are so that a crash may leave now
 abbrev pub AtPresent : {M D : Type 0} → (D → Option (List Crash)) → (List ℕ → List ℕ → Type 0) → State M D → Type 0
 AtPresent states Q new = NowLeaves Q (states (disk_a new)) (states (disk_b new))
+
+-- what a read gives of the current slot is so, with each image of the other slot that a crash may leave now
+abbrev pub AtReading : {M D : Type 0} → (D → Option (List Crash)) → (List ℕ → List ℕ → Type 0) → State M D → Type 0
+AtReading states Q new =
+    Now (λ s. (others : List ℕ) → MayLeave (states new.other) others → Q (slot_a new.in_b s.seen others) (slot_b new.in_b s.seen others)) (states new.current)
+
+-- on a disk that fails where a call is armed alone, and leaves what was armed: the armed call was one of a commit's four, and the slots load, as they are read, to the state before or after by what it leaves
+abbrev pub StopsAsArmed : {M D S C : Type 0} → (D → Option (List Crash)) → Alarm → Rules S C → S → ℕ → C → State M D → Type 0
+StopsAsArmed states alarm law state serial cmd new =
+    alarm.quiet ≡ true → alarm.exact ≡ true
+    → (call : Armed) × (alarm.armed ≡ Some call) × (call.before < 4) × AtReading states (LoadsLanded law state serial cmd (lands call.before call.image)) new
 
 -- all but the machine, its current disk and what follows from the commands is as it was
 pub record SameJournal {M D : Type 0} (old new : State M D) : Type 0 where

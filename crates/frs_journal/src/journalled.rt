@@ -5,7 +5,7 @@ ghost use Rattle.frs_journal.specs.Faults.{IsApplyFault, IsCommitFault, IsDiskFa
 ghost use Rattle.frs_journal.specs.Loads.{Loads, LoadsStep, StopsAt};
 ghost use Rattle.frs_journal.specs.Rests.{Kept};
 ghost use Rattle.frs_journal.specs.Slots.{framed};
-ghost use Rattle.frs_journal.specs.State.{AtMoments, AtPresent, SameJournal, disk_a, disk_b};
+ghost use Rattle.frs_journal.specs.State.{AtMoments, AtPresent, SameJournal, StopsAsArmed, disk_a, disk_b};
 
 use crate::faults::ApplyFault;
 use crate::slot::append_record;
@@ -224,6 +224,8 @@ impl<M: Machine, D: FrsDisk> Journalled<M, D> {
         ensures stops { OnErr result (StopsAt M.law (M.state self.old.machine) self.old.serial
             (D.states (disk_a self.old)) (D.states (disk_a self.new)) (D.states (disk_b self.old)) (D.states (disk_b self.new))
             (D.alarm self.old.current) (D.alarm self.new.current)) }
+        ensures word { OnErr result (StopsAsArmed D.states (D.alarm self.old.current)
+            M.law (M.state self.old.machine) self.old.serial (M.command prepared.ready) self.new) }
         ensures could { (after : M.State) × M.law.step (M.state self.old.machine) (M.command prepared.ready) after }
         ensures fault { IfErr result (λ e. IsCommitFault e (D.alarm self.old.current).faults (D.alarm self.new.current).faults) }
         ensures other { self.new.other ≡ self.old.other }
@@ -261,6 +263,8 @@ impl<M: Machine, D: FrsDisk> Journalled<M, D> {
         ensures stops { IfErr result (λ e. IsDiskFault e → StopsAt M.law (M.state self.old.machine) self.old.serial
             (D.states (disk_a self.old)) (D.states (disk_a self.new)) (D.states (disk_b self.old)) (D.states (disk_b self.new))
             (D.alarm self.old.current) (D.alarm self.new.current)) }
+        ensures word { IfErr result (λ e. IsDiskFault e → StopsAsArmed D.states (D.alarm self.old.current)
+            M.law (M.state self.old.machine) self.old.serial cmd self.new) }
         ensures could { IfErr result (λ e. IsDiskFault e → (after : M.State) × M.law.step (M.state self.old.machine) cmd after) }
         ensures refused { IfErr result (λ e. (IsDiskFault e → ⊥) → (M.state self.new.machine ≡ M.state self.old.machine)
             × (D.states self.new.current ≡ D.states self.old.current) × (D.alarm self.new.current ≡ D.alarm self.old.current)
