@@ -1,4 +1,4 @@
-ghost use Rattle.std.specs.Prelude.{◌≡◌, IfOk, ◌≤◌, length, take};
+ghost use Rattle.std.specs.Prelude.{◌≡◌, ◌<◌, IfOk, ◌≤◌, length, take};
 ghost use Rattle.frs_disk.specs.Moments.{seen_now};
 ghost use Rattle.frs_disk.specs.Sums.{HasSum};
 
@@ -61,6 +61,30 @@ fn bytes_are_read_by_their_sum(rt: HostRuntime) -> Result<(), Fail> {
     Ok(())
 }
 
+/// Writes over the disk, whose call of this number is armed, and checks what is left before and
+/// after a crash.
+fn check_stop(
+    rt: &impl Abort,
+    alloc: Global,
+    disk: &mut MemDisk,
+    call: u32,
+    image: Image,
+    want: &[u8; 3],
+    row: usize,
+) -> Result<(), Fail>
+    requires { 0 < call }
+{
+    disk.reserve(alloc, 2, 3)?;
+    let armed = disk.arm(call, image);
+    let stopped = write_synced(disk, 0, b"new").is_err();
+    assert!(rt; armed && stopped && disk.stopped(), "in row {row}");
+    assert_has(rt, disk, want, row)?;
+    assert!(rt; disk.crash(), "in row {row}");
+    assert_has(rt, disk, want, row)?;
+    assert_eq!(rt; (disk.faults(), disk.unarmed()), (1, 0), "in row {row}");
+    Ok(())
+}
+
 #[test]
 fn a_stop_leaves_the_armed_image(rt: HostRuntime) -> Result<(), Fail> {
     let alloc = rt.alloc();
@@ -71,16 +95,30 @@ fn a_stop_leaves_the_armed_image(rt: HostRuntime) -> Result<(), Fail> {
         (2, Image::Without, b"old"),
     ];
     for (row, (call, image, want)) in rows.iter().enumerate() {
+        assert!(rt; *call > 0, "in row {row}");
         let mut disk = disk_of(alloc, b"old")?;
-        disk.reserve(alloc, 2, 3)?;
-        let armed = disk.arm(*call, *image);
-        let stopped = write_synced(&mut disk, 0, b"new").is_err();
-        assert!(rt; armed && stopped && disk.stopped(), "in row {row}");
-        assert_has(&rt, &mut disk, want, row)?;
-        assert!(rt; disk.crash(), "in row {row}");
-        assert_has(&rt, &mut disk, want, row)?;
-        assert_eq!(rt; (disk.faults(), disk.unarmed()), (1, 0), "in row {row}");
+        check_stop(&rt, alloc, &mut disk, *call, *image, want, row)?;
     }
+    Ok(())
+}
+
+/// Writes over the disk, whose call of this number is to fail, and checks what is left.
+fn check_failure(
+    rt: &impl Abort,
+    alloc: Global,
+    disk: &mut MemDisk,
+    call: u32,
+    want: &[u8; 3],
+    row: usize,
+) -> Result<(), Fail>
+    requires { 0 < call }
+{
+    disk.reserve(alloc, 2, 3)?;
+    let armed = disk.fail(call);
+    let failed = write_synced(disk, 0, b"new").is_err();
+    assert!(rt; armed && failed && !disk.stopped(), "in row {row}");
+    assert_has(rt, disk, want, row)?;
+    assert_eq!(rt; disk.faults(), 1, "in row {row}");
     Ok(())
 }
 
@@ -88,13 +126,9 @@ fn a_stop_leaves_the_armed_image(rt: HostRuntime) -> Result<(), Fail> {
 fn a_failing_call_leaves_all_as_it_was(rt: HostRuntime) -> Result<(), Fail> {
     let alloc = rt.alloc();
     for (row, (call, want)) in [(1, b"old"), (2, b"new")].iter().enumerate() {
+        assert!(rt; *call > 0, "in row {row}");
         let mut disk = disk_of(alloc, b"old")?;
-        disk.reserve(alloc, 2, 3)?;
-        let armed = disk.fail(*call);
-        let failed = write_synced(&mut disk, 0, b"new").is_err();
-        assert!(rt; armed && failed && !disk.stopped(), "in row {row}");
-        assert_has(&rt, &mut disk, want, row)?;
-        assert_eq!(rt; disk.faults(), 1, "in row {row}");
+        check_failure(&rt, alloc, &mut disk, *call, want, row)?;
     }
     Ok(())
 }
