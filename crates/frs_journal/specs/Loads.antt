@@ -55,6 +55,11 @@ AnyMoment Q a_old a_new b_old b_new = (a b : List ℕ) → MightLeave a_old a_ne
 abbrev pub NowLeaves : (List ℕ → List ℕ → Type 0) → Option (List Crash) → Option (List Crash) → Type 0
 NowLeaves Q a_told b_told = (a b : List ℕ) → MayLeave a_told a → MayLeave b_told b → Q a b
 
+-- two slots load to one of two states at each moment since, where they did before
+abbrev pub KeepsEither : {S C : Type 0} → Rules S C → Option (List Crash) → Option (List Crash) → Option (List Crash) → Option (List Crash) → Type 0
+KeepsEither {S = S} law a_old a_new b_old b_new =
+    (m n : S) (k l : ℕ) → NowLeaves (LoadsEither law m k n l) a_old b_old → AnyMoment (LoadsEither law m k n l) a_old a_new b_old b_new
+
 -- the device call that failed, of a commit's four, was one of the first two, and at each moment since a load gives the state before; or it was one of the last two
 abbrev pub StopsAt : {S C : Type 0} → Rules S C → S → ℕ → Option (List Crash) → Option (List Crash) → Option (List Crash) → Option (List Crash) → Alarm → Alarm → Type 0
 StopsAt law state serial a_old a_new b_old b_new old new =

@@ -7,7 +7,7 @@ ghost use Rattle.frs_journal.specs.Damage.{DamagedIn, ReadDamaged, ReadLoads, Ta
 ghost use Rattle.frs_disk.specs.Alarms.{Passes};
 ghost use Rattle.frs_journal.specs.Faults.{IsDeviceFault, IsLoadFault, IsSlotFault, IsUnread};
 ghost use Rattle.frs_journal.specs.Gates.{OrSame};
-ghost use Rattle.frs_journal.specs.Loads.{AnyMoment, Loads, LoadsEither, NowLeaves};
+ghost use Rattle.frs_journal.specs.Loads.{KeepsEither, Loads};
 ghost use Rattle.frs_journal.specs.Opens.{SameList};
 ghost use Rattle.frs_journal.specs.Reading.{IsValid};
 ghost use Rattle.frs_journal.specs.Slots.{Yields, generation_of, slot_a, slot_b};
@@ -79,7 +79,8 @@ fn read_both<D: FrsDisk>(alloc: Global, a: &mut D, b: &mut D) -> Result<Slots, L
     ensures passed_a { OnOk result (Passes 1 (D.alarm a.old) (D.alarm a.new)) }
     ensures passed_b { OnOk result (Passes 1 (D.alarm b.old) (D.alarm b.new)) }
     ensures why { IfErr result (λ e. IsUnread e
-        (D.alarm a.old).faults (D.alarm a.new).faults (D.alarm b.old).faults (D.alarm b.new).faults) }
+        (D.alarm a.old).faults (D.alarm a.new).faults
+        (D.alarm b.old).faults (D.alarm b.new).faults) }
 {
     let Ok(()) = a.reserve(alloc, 1, 0) else {
         return Err(LoadWhy::Memory);
@@ -196,7 +197,8 @@ fn open_slots<M: Machine, D: FrsDisk>(
     ensures state { IfOk result (λ j. Loads M.law (M.state j.machine) j.serial slots.now.a.items slots.now.b.items) }
     ensures damaged { IfErr result (λ f. DamagedIn M.law slots.now.a.items slots.now.b.items f.why) }
     ensures fault { IfErr result (λ f. IsLoadFault f.why
-        (D.alarm disk_a).faults (D.alarm f.disk_a).faults (D.alarm disk_b).faults (D.alarm f.disk_b).faults) }
+        (D.alarm disk_a).faults (D.alarm f.disk_a).faults
+        (D.alarm disk_b).faults (D.alarm f.disk_b).faults) }
     ensures open { IfOk result (λ j. j.shut ≡ false) }
     ensures origin { IfOk result (λ j. M.law.origin (M.state j.machine) ≡ M.law.origin (M.state machine)) }
 {
@@ -225,14 +227,18 @@ impl<M: Machine, D: FrsDisk> Journalled<M, D> {
         disk_b: D,
     ) -> Result<Journalled<M, D>, LoadFault<D>>
         requires fresh { IsFresh M.law (M.state machine) }
-        ensures state { IfOk result (λ j. ReadLoads M.law (M.state j.machine) j.serial (D.states disk_a) (D.states disk_b)) }
-        ensures damaged { IfErr result (λ f. ReadDamaged M.law f.why (D.states disk_a) (D.states disk_b)) }
+        ensures state { IfOk result (λ j. ReadLoads
+            M.law (M.state j.machine) j.serial (D.states disk_a) (D.states disk_b)) }
+        ensures damaged { IfErr result (λ f. ReadDamaged
+            M.law f.why (D.states disk_a) (D.states disk_b)) }
         ensures fault { IfErr result (λ f. IsLoadFault f.why
-            (D.alarm disk_a).faults (D.alarm f.disk_a).faults (D.alarm disk_b).faults (D.alarm f.disk_b).faults) }
-        ensures crash { IfOk result (λ j. (m n : M.State) (k l : ℕ) → NowLeaves (LoadsEither M.law m k n l) (D.states disk_a) (D.states disk_b)
-            → AnyMoment (LoadsEither M.law m k n l) (D.states disk_a) (D.states (state.disk_a j)) (D.states disk_b) (D.states (state.disk_b j))) }
-        ensures failed { IfErr result (λ f. (m n : M.State) (k l : ℕ) → NowLeaves (LoadsEither M.law m k n l) (D.states disk_a) (D.states disk_b)
-            → AnyMoment (LoadsEither M.law m k n l) (D.states disk_a) (D.states f.disk_a) (D.states disk_b) (D.states f.disk_b)) }
+            (D.alarm disk_a).faults (D.alarm f.disk_a).faults
+            (D.alarm disk_b).faults (D.alarm f.disk_b).faults) }
+        ensures crash { IfOk result (λ j. KeepsEither M.law
+            (D.states disk_a) (D.states (state.disk_a j))
+            (D.states disk_b) (D.states (state.disk_b j))) }
+        ensures failed { IfErr result (λ f. KeepsEither M.law
+            (D.states disk_a) (D.states f.disk_a) (D.states disk_b) (D.states f.disk_b)) }
         ensures open { IfOk result (λ j. j.shut ≡ false) }
         ensures origin { IfOk result (λ j. M.law.origin (M.state j.machine) ≡ M.state machine) }
     {

@@ -200,7 +200,11 @@ fn each_call_of_a_commit_stops_or_fails(rt: HostRuntime) -> Result<(), Fail> {
     for (row, (call, image, want)) in rows.iter().enumerate() {
         assert!(rt; *call > 0, "in row {row}");
         let mut journal = journal(alloc)?;
-        assert_eq!(rt; refusals(alloc, &mut journal, *call, *image), faults, "in row {row}");
+        assert_eq!(rt;
+            refusals(alloc, &mut journal, *call, *image),
+            faults,
+            "in row {row}"
+        );
         let found = reloaded(alloc, journal);
         assert_eq!(rt; found, Some((*want, *want as u64)), "in row {row}");
     }

@@ -1,4 +1,4 @@
-//! What a load finds of the two slots of a journal, for comparing it with a reader of one's own, and
+//! What a load finds of the two slots of a journal, to be compared with a reader of one's own, and
 //! how fast journals are.
 //!
 //! Read [`probe::probe`] first: from the bytes of two slots to what a load finds of them.
