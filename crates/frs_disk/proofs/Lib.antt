@@ -3,6 +3,7 @@ pub mod Images
 pub mod Ringing
 pub mod Stands
 pub mod Lasting
-pub mod Replays
 pub mod Keeping
 pub mod Losing
+pub mod Words
+pub mod Walks

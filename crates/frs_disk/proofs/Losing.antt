@@ -2,7 +2,7 @@
 use Rattle.std.proofs.Common.{◌≡◌, List, [], ◌∷◌, Bool, true, false, ap, subst, Some}
 use Rattle.frs_disk.specs.Crashes.{Crash, Stands, Within, lost, synced, unchanged}
 use Rattle.frs_disk.specs.Moments.{Stops, push, top}
-use Rattle.frs_disk.specs.History.{lost_if}
+use Rattle.frs_disk.specs.Changes.{lost_if}
 use Rattle.frs_disk.proofs.Moments.{within_synced}
 
 within_lost : (is_lost : Bool) (s : Crash) → Stands (lost_if is_lost s) → Within s (lost_if is_lost s)

@@ -1,5 +1,5 @@
 -- What a script armed on a disk, and which calls failed.
-use Rattle.std.specs.Prelude.{◌≡◌, ◌≤◌, ◌<◌, ◌+◌, ◌-◌, ◌^◌, ◌⊎◌, min, ℕ, Bool, true, false, Option, Some, None, IfSome, is_some, Result, MatchResult, OnErr, List}
+use Rattle.std.specs.Prelude.{◌≡◌, ◌≤◌, ◌<◌, ◌+◌, ◌-◌, ◌^◌, ◌⊎◌, min, ℕ, zero, suc, Bool, true, false, Option, Some, None, IfSome, is_some, Result, MatchResult, OnErr, List, [], ◌∷◌}
 use Rattle.frs_disk.specs.Crashes.{Crash, synced, lost}
 use Rattle.frs_disk.specs.Moments.{pushed}
 use Rattle.frs_disk.specs.declared.image.Image.{Image}
@@ -114,3 +114,27 @@ LeavesWord result change alarm old new =
 -- a failed sync did
 abbrev pub SyncLeavesWord : {T E : Type 0} → Result T E → Alarm → Option (List Crash) → Option (List Crash) → Type 0
 SyncLeavesWord result alarm old new = OnErr result (alarm.exact ≡ true → LeftByArmed synced lost alarm.armed old new)
+
+-- a call that changes a disk: what it makes of a state, and what a stop leaves that takes it back with all that was done since the last sync
+pub record Effect : Type 0 where
+  pub done : Crash → Crash
+  pub undone : Crash → Crash
+
+-- a write or a cut that makes this change
+abbrev pub changes : (Crash → Crash) → Effect
+changes change = record { done = change; undone = λ s. lost (change s) }
+
+-- a sync
+abbrev pub syncs : Effect
+syncs = record { done = synced; undone = lost }
+
+-- of these calls, made in order, the one behind so many others failed, and left what was armed
+abbrev pub LeftAt : ℕ → List Effect → Option Armed → Option (List Crash) → Option (List Crash) → Type 0
+LeftAt n [] armed old new = ⊥
+LeftAt zero (call ∷ calls) armed old new = LeftByArmed call.done call.undone armed old new
+LeftAt (suc n) (call ∷ calls) armed old new = LeftAt n calls armed (pushed call.done old) new
+
+-- a function that makes these calls failed at one of them, which left what was armed, on a disk that is exact
+abbrev pub CallsLeaveWord : {T E : Type 0} → Result T E → List Effect → Alarm → Alarm → Option (List Crash) → Option (List Crash) → Type 0
+CallsLeaveWord result calls before now old new =
+    OnErr result (before.exact ≡ true → (n : ℕ) × FailsAt n before now × LeftAt n calls before.armed old new)

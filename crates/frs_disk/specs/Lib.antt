@@ -5,6 +5,8 @@ pub mod Starts
 pub mod Sums
 pub mod Histories
 pub mod History
+pub mod Traces
+pub mod Changes
 pub mod Memory
 pub mod Reached
 pub mod Racks

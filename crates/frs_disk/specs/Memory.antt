@@ -6,12 +6,11 @@ use Rattle.frs_disk.specs.Starts.{Start}
 use Rattle.frs_disk.specs.declared.script.ArmedCall.{ArmedCall}
 use Rattle.frs_disk.specs.declared.script.Script.{Script}
 
--- the states, the newest first, what a script armed, how the disk was when it was made, and for how many calls and bytes there is room
+-- the states, the newest first, what a script armed, how the disk was when it was made, and for how many bytes there is room
 pub record MemState : Type 0 where
   pub states : List Crash
   pub alarm : Alarm
   pub start : Start
-  pub spare_calls : ℕ
   pub spare_bytes : ℕ
 
 -- the call that is armed

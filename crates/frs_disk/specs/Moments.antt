@@ -20,6 +20,10 @@ push change ss = change (top ss) ∷ ss
 abbrev pub pushed : (Crash → Crash) → Option (List Crash) → Option (List Crash)
 pushed change told = option_map (push change) told
 
+-- it begins anew with what a read gives, all of it made sure of
+abbrev pub reread : Option (List Crash) → Option (List Crash)
+reread told = option_map (λ ss. still (seen_now ss) ∷ []) told
+
 -- the disk tells its states
 abbrev pub Tells : Option (List Crash) → Type 0
 Tells None = ⊥

@@ -17,6 +17,7 @@ mod script_disk;
 mod steps;
 #[cfg(test)]
 mod tests;
+mod trace;
 
 pub use disk::{Failed, FrsDisk};
 pub use image::Image;

@@ -2,7 +2,7 @@
 ghost use Rattle.std.specs.Prelude.{◌≡◌, ◌<◌, ◌∷◌, [], List, ℕ, Some, None, IsTrue, true, false};
 ghost use Rattle.frs_disk.specs.Alarms.{armed_if, disarmed};
 ghost use Rattle.frs_disk.specs.Crashes.{still};
-ghost use Rattle.frs_disk.specs.Moments.{MayLeave, Tells};
+ghost use Rattle.frs_disk.specs.Moments.{MayLeave, Tells, reread};
 
 use crate::disk::FrsDisk;
 use crate::image::Image;
@@ -48,11 +48,13 @@ pub trait ScriptDisk: FrsDisk {
         ensures { result ≡ (Self.FrsDisk.alarm self.now).stopped };
 
     /// Crashes the disk, which then holds one of the images that a crash may leave, all of it made
-    /// sure of.
+    /// sure of. A disk on which a stop leaves just what was armed then holds what a read gave.
     fn crash(&mut self) -> bool
         ensures can { result ≡ (Self.FrsDisk.alarm self.old).can_crash }
         ensures crashed { IsTrue result → (image : List ℕ) × MayLeave (Self.FrsDisk.states self.old) image
             × (Self.FrsDisk.states self.new ≡ Some (still image ∷ [])) }
+        ensures read { IsTrue result → (Self.FrsDisk.alarm self.old).exact ≡ true
+            → Self.FrsDisk.states self.new ≡ reread (Self.FrsDisk.states self.old) }
         ensures same { result ≡ false → Self.FrsDisk.states self.new ≡ Self.FrsDisk.states self.old }
         ensures alarm { Self.FrsDisk.alarm self.new ≡ Self.FrsDisk.alarm self.old }
         ensures start { Self.FrsDisk.start self.new ≡ Self.FrsDisk.start self.old };

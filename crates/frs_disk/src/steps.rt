@@ -1,6 +1,6 @@
 // Calls that are followed by a sync.
-ghost use Rattle.std.specs.Prelude.{◌≡◌, ◌≤◌, ◌<◌, ◌+◌, length, IfSome, OnOk};
-ghost use Rattle.frs_disk.specs.Alarms.{TicksUpTo};
+ghost use Rattle.std.specs.Prelude.{◌≡◌, ◌≤◌, ◌<◌, ◌+◌, ◌∷◌, [], length, IfSome, OnOk};
+ghost use Rattle.frs_disk.specs.Alarms.{CallsLeaveWord, TicksUpTo, changes, syncs};
 ghost use Rattle.frs_disk.specs.Crashes.{wrote, cut_to, synced};
 ghost use Rattle.frs_disk.specs.Moments.{Now, Stops, pushed, seen_now};
 ghost use Rattle.frs_disk.specs.Starts.{touched};
@@ -14,12 +14,16 @@ pub fn write_synced<D: FrsDisk>(disk: &mut D, at: u64, bytes: &[u8]) -> Result<(
     requires bytes { length bytes.now ≤ D.spare_bytes disk.old }
     ensures done { OnOk result (D.states disk.new ≡ pushed synced (pushed (wrote at bytes.now) (D.states disk.old))) }
     ensures inside { Stops (wrote at bytes.now) (D.states disk.old) (D.states disk.new) }
+    ensures word { CallsLeaveWord result (changes (wrote at bytes.now) ∷ syncs ∷ [])
+        (D.alarm disk.old) (D.alarm disk.new) (D.states disk.old) (D.states disk.new) }
     ensures alarm { TicksUpTo 2 result (D.alarm disk.old) (D.alarm disk.new) }
     ensures start { D.start disk.new ≡ touched (D.start disk.old) }
     ensures calls { D.spare_calls disk.old ≤ D.spare_calls disk.new + 2 }
     ensures bytes { D.spare_bytes disk.old ≤ D.spare_bytes disk.new + length bytes.now }
 {
-    disk.write_at(at, bytes)?;
+    let Ok(()) = disk.write_at(at, bytes) else {
+        return Err(Failed);
+    };
     disk.sync()
 }
 
@@ -29,11 +33,15 @@ pub fn cut_synced<D: FrsDisk>(disk: &mut D, end: u64) -> Result<(), Failed>
     requires calls { 1 < D.spare_calls disk.old }
     ensures done { OnOk result (D.states disk.new ≡ pushed synced (pushed (cut_to end) (D.states disk.old))) }
     ensures inside { Stops (cut_to end) (D.states disk.old) (D.states disk.new) }
+    ensures word { CallsLeaveWord result (changes (cut_to end) ∷ syncs ∷ [])
+        (D.alarm disk.old) (D.alarm disk.new) (D.states disk.old) (D.states disk.new) }
     ensures alarm { TicksUpTo 2 result (D.alarm disk.old) (D.alarm disk.new) }
     ensures start { D.start disk.new ≡ touched (D.start disk.old) }
     ensures calls { D.spare_calls disk.old ≤ D.spare_calls disk.new + 2 }
     ensures bytes { D.spare_bytes disk.old ≤ D.spare_bytes disk.new }
 {
-    disk.cut(end)?;
+    let Ok(()) = disk.cut(end) else {
+        return Err(Failed);
+    };
     disk.sync()
 }

@@ -1,11 +1,18 @@
-use crate::{FrsDisk, Image, MemDisk, MemRack, Rack, ScriptDisk, cut_synced, write_synced};
+ghost use Rattle.std.specs.Prelude.{◌≡◌, ◌<◌, IfOk, ◌≤◌, length, take};
+ghost use Rattle.frs_disk.specs.Moments.{seen_now};
+ghost use Rattle.frs_disk.specs.Sums.{HasSum};
+
+use crate::{Failed, FrsDisk, Image, MemDisk, MemRack, Rack, ScriptDisk, cut_synced, write_synced};
 use frs_base::Sum;
+use sha1::Sha1;
 use std::alloc::Global;
 use std::process::Abort;
 use std::test::Fail;
 
 /// A disk with these bytes, all of them synced.
-fn disk_of(alloc: Global, bytes: &[u8]) -> Result<MemDisk, Fail> {
+fn disk_of(alloc: Global, bytes: &[u8]) -> Result<MemDisk, Fail>
+    ensures { IfOk result (λ disk. seen_now disk.states ≡ bytes.now) }
+{
     let mut disk = MemDisk::new(alloc);
     disk.reserve(alloc, 2, bytes.len() as u64)?;
     write_synced(&mut disk, 0, bytes)?;
@@ -34,6 +41,50 @@ fn bytes_are_written_cut_and_read(rt: HostRuntime) -> Result<(), Fail> {
     Ok(())
 }
 
+/// The first four bytes of the disk, known by their beginning and their sum.
+fn read_known(disk: &mut MemDisk, head: &[u8], sum: &Sum) -> Result<[u8; 4], Failed>
+    requires known { HasSum head.now sum.now.0 (take 4 (seen_now disk.old.states)) }
+    requires long { 4 ≤ length (seen_now disk.old.states) }
+{
+    let mut found = [0; 4];
+    disk.read_sum(0, &mut found, head, sum)?;
+    Ok(found)
+}
+
+#[test]
+fn bytes_are_read_by_their_sum(rt: HostRuntime) -> Result<(), Fail> {
+    let alloc = rt.alloc();
+    let mut disk = disk_of(alloc, b"form")?;
+    let sum = Sum(Sha1::digest(b"form"));
+    let found = read_known(&mut disk, b"fo", &sum)?;
+    assert_eq!(rt; found.as_slice(), b"form".as_slice());
+    Ok(())
+}
+
+/// Writes over the disk, whose call of this number is armed, and checks what is left before and
+/// after a crash.
+fn check_stop(
+    rt: &impl Abort,
+    alloc: Global,
+    disk: &mut MemDisk,
+    call: u32,
+    image: Image,
+    want: &[u8; 3],
+    row: usize,
+) -> Result<(), Fail>
+    requires { 0 < call }
+{
+    disk.reserve(alloc, 2, 3)?;
+    let armed = disk.arm(call, image);
+    let stopped = write_synced(disk, 0, b"new").is_err();
+    assert!(rt; armed && stopped && disk.stopped(), "in row {row}");
+    assert_has(rt, disk, want, row)?;
+    assert!(rt; disk.crash(), "in row {row}");
+    assert_has(rt, disk, want, row)?;
+    assert_eq!(rt; (disk.faults(), disk.unarmed()), (1, 0), "in row {row}");
+    Ok(())
+}
+
 #[test]
 fn a_stop_leaves_the_armed_image(rt: HostRuntime) -> Result<(), Fail> {
     let alloc = rt.alloc();
@@ -44,16 +95,30 @@ fn a_stop_leaves_the_armed_image(rt: HostRuntime) -> Result<(), Fail> {
         (2, Image::Without, b"old"),
     ];
     for (row, (call, image, want)) in rows.iter().enumerate() {
+        assert!(rt; *call > 0, "in row {row}");
         let mut disk = disk_of(alloc, b"old")?;
-        disk.reserve(alloc, 2, 3)?;
-        let armed = disk.arm(*call, *image);
-        let stopped = write_synced(&mut disk, 0, b"new").is_err();
-        assert!(rt; armed && stopped && disk.stopped(), "in row {row}");
-        assert_has(&rt, &mut disk, want, row)?;
-        assert!(rt; disk.crash(), "in row {row}");
-        assert_has(&rt, &mut disk, want, row)?;
-        assert_eq!(rt; (disk.faults(), disk.unarmed()), (1, 0), "in row {row}");
+        check_stop(&rt, alloc, &mut disk, *call, *image, want, row)?;
     }
+    Ok(())
+}
+
+/// Writes over the disk, whose call of this number is to fail, and checks what is left.
+fn check_failure(
+    rt: &impl Abort,
+    alloc: Global,
+    disk: &mut MemDisk,
+    call: u32,
+    want: &[u8; 3],
+    row: usize,
+) -> Result<(), Fail>
+    requires { 0 < call }
+{
+    disk.reserve(alloc, 2, 3)?;
+    let armed = disk.fail(call);
+    let failed = write_synced(disk, 0, b"new").is_err();
+    assert!(rt; armed && failed && !disk.stopped(), "in row {row}");
+    assert_has(rt, disk, want, row)?;
+    assert_eq!(rt; disk.faults(), 1, "in row {row}");
     Ok(())
 }
 
@@ -61,13 +126,9 @@ fn a_stop_leaves_the_armed_image(rt: HostRuntime) -> Result<(), Fail> {
 fn a_failing_call_leaves_all_as_it_was(rt: HostRuntime) -> Result<(), Fail> {
     let alloc = rt.alloc();
     for (row, (call, want)) in [(1, b"old"), (2, b"new")].iter().enumerate() {
+        assert!(rt; *call > 0, "in row {row}");
         let mut disk = disk_of(alloc, b"old")?;
-        disk.reserve(alloc, 2, 3)?;
-        let armed = disk.fail(*call);
-        let failed = write_synced(&mut disk, 0, b"new").is_err();
-        assert!(rt; armed && failed && !disk.stopped(), "in row {row}");
-        assert_has(&rt, &mut disk, want, row)?;
-        assert_eq!(rt; disk.faults(), 1, "in row {row}");
+        check_failure(&rt, alloc, &mut disk, *call, want, row)?;
     }
     Ok(())
 }

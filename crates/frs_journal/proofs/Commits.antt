@@ -80,34 +80,34 @@ module _ {M C : Type 0} (law : Rules M C) where
       }
 
   -- one command more
-  known_more : (xs : List C) (x : C) → All law.is_cmd xs → law.is_cmd x → All law.is_cmd (xs ++ x ∷ [])
+  pub known_more : (xs : List C) (x : C) → All law.is_cmd xs → law.is_cmd x → All law.is_cmd (xs ++ x ∷ [])
   known_more xs x h k = All-push law.is_cmd xs x h k
 
   pub payloads_more : (mark : List (List ℕ)) (xs : List C) (x : C) → mark ++ map law.code (xs ++ x ∷ []) ≡ (mark ++ map law.code xs) ++ law.code x ∷ []
   payloads_more mark xs x =
       ap (λ (ps : List (List ℕ)). mark ++ ps) (map-append law.code xs (x ∷ [])) ∙ sym (append_assoc mark (map law.code xs) (law.code x ∷ []))
 
-  short_more : (mark : List (List ℕ)) (xs : List C) (x : C) → All IsShort (mark ++ map law.code xs) → IsShort (law.code x) → All IsShort (mark ++ map law.code (xs ++ x ∷ []))
+  pub short_more : (mark : List (List ℕ)) (xs : List C) (x : C) → All IsShort (mark ++ map law.code xs) → IsShort (law.code x) → All IsShort (mark ++ map law.code (xs ++ x ∷ []))
   short_more mark xs x h k =
       let P : List (List ℕ) → Type 0 = λ ps. All IsShort ps in
       subst P (sym (payloads_more mark xs x)) (All-push IsShort (mark ++ map law.code xs) (law.code x) h k)
 
-  state_more : (m n : M) (xs : List C) (x : C) → Runs law.step (law.origin m) xs m → law.step m x n → law.origin n ≡ law.origin m → Runs law.step (law.origin n) (xs ++ x ∷ []) n
+  pub state_more : (m n : M) (xs : List C) (x : C) → Runs law.step (law.origin m) xs m → law.step m x n → law.origin n ≡ law.origin m → Runs law.step (law.origin n) (xs ++ x ∷ []) n
   state_more m n xs x is steps keeps = let P : M → Type 0 = λ o. Runs law.step o (xs ++ x ∷ []) n in subst P (sym keeps) (runs_more (law.origin m) m n xs x is steps)
 
-  bytes_more : (generation first : ℕ) (mark : List (List ℕ)) (xs : List C) (x : C)
+  pub bytes_more : (generation first : ℕ) (mark : List (List ℕ)) (xs : List C) (x : C)
       → slot_front generation first (mark ++ map law.code xs) ++ 1 ∷ (framed (law.code x) ++ 0 ∷ []) ≡ slot_front generation first (mark ++ map law.code (xs ++ x ∷ [])) ++ 0 ∷ []
   bytes_more generation first mark xs x =
       sym (append_assoc (slot_front generation first (mark ++ map law.code xs)) (1 ∷ framed (law.code x)) (0 ∷ []))
       ∙ ap (λ (l : List ℕ). l ++ 0 ∷ []) (sym (front_more generation first (mark ++ map law.code xs) (law.code x)))
       ∙ ap (λ (ps : List (List ℕ)). slot_front generation first ps ++ 0 ∷ []) (sym (payloads_more mark xs x))
 
-  front_is : (m : M) (in_b : Bool) (end serial : ℕ) (s : Crash) (other : Option (List Crash)) → (r : Rests law m in_b end serial s other)
+  pub front_is : (m : M) (in_b : Bool) (end serial : ℕ) (s : Crash) (other : Option (List Crash)) → (r : Rests law m in_b end serial s other)
       → take (end - 1) s.seen ≡ slot_front r.generation r.first (r.mark ++ map law.code r.commands)
   front_is m in_b end serial s other r =
       ap (λ (t : Crash). take (end - 1) t.seen) r.bytes ∙ take_at (slot_front r.generation r.first (r.mark ++ map law.code r.commands)) (r.closing ∷ []) (end - 1) (omega (arith, r.size))
 
-  marked_is : (m : M) (in_b : Bool) (end serial : ℕ) (s : Crash) (other : Option (List Crash)) → (r : Rests law m in_b end serial s other)
+  pub marked_is : (m : M) (in_b : Bool) (end serial : ℕ) (s : Crash) (other : Option (List Crash)) → (r : Rests law m in_b end serial s other)
       → generation_of s.seen ≡ Some (wire r.generation)
   marked_is m in_b end serial s other r = ap (λ (t : Crash). generation_of t.seen) r.bytes ∙ front_marked r.generation r.first (r.mark ++ map law.code r.commands) r.closing []
 

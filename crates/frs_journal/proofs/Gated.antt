@@ -76,7 +76,7 @@ shutting n body (Some ss) mid rest stops =
     goes_map (Within (wrote (n + 1) body (top ss))) (Leaves (Shut (take n (seen_now ss)))) (Some ss) mid
     (λ s within. λ c image. shut_first body n (top ss) rest c (within.images c image)) stops
 
-first_seen : (body front : List ℕ) (x n : ℕ) → length front ≡ n → synced (wrote (n + 1) body (still (front ++ x ∷ []))) ≡ still (front ++ x ∷ body)
+pub first_seen : (body front : List ℕ) (x n : ℕ) → length front ≡ n → synced (wrote (n + 1) body (still (front ++ x ∷ []))) ≡ still (front ++ x ∷ body)
 first_seen body front x n len = ap still (patch_end (front ++ x ∷ []) body (n + 1) (omega (arith, len, length-append front (x ∷ []))) ∙ append_assoc front (x ∷ []) body)
 
 at_second : (body : List ℕ) (n : ℕ) (s : Crash) → IsAtRest n s → Leaves (Gated (take n s.seen) body) (wrote n (1 ∷ []) (synced (wrote (n + 1) body s)))

@@ -14,3 +14,6 @@ pub mod Openings
 pub mod Moves
 pub mod Readings
 pub mod Undamaged
+pub mod Places
+pub mod Counting
+pub mod Landing

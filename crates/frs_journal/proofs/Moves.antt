@@ -5,6 +5,7 @@ use Rattle.frs_base.specs.Machines.{Rules, Runs}
 use Rattle.frs_disk.specs.Crashes.{Crash, IsImage, IsStill, Leaves, Stands, Within, still, synced, unchanged}
 use Rattle.frs_disk.specs.Moments.{Goes, MayLeave, Now, Since, Stops, pushed, seen_now, top}
 use Rattle.frs_disk.proofs.Moments.{goes_map, goes_trans, only_still}
+use Rattle.frs_journal.specs.Damage.{IsRead}
 use Rattle.frs_journal.specs.Loads.{AnyMoment, Loads, LoadsEither, NowLeaves}
 use Rattle.frs_journal.specs.Gates.{OrSame}
 use Rattle.frs_journal.specs.Opens.{Opens, SameList}
@@ -286,9 +287,9 @@ seen_before xs None mid stands is read = tt
 seen_before xs (Some ss) mid stands is read =
     let P : Option (List Crash) → Type 0 = λ o. IfSome o (λ ss. xs ≡ seen_now ss) in (stands, sym (subst P is read))
 
-pub image_before : (xs : List ℕ) (a mid : Option (List Crash)) → Now Stands a → mid ≡ pushed synced a → IfSome mid (λ ss. xs ≡ seen_now ss) → Now (λ s. IsImage s xs) a
-image_before xs a mid stands is read =
-    now_map (λ s. Stands s × (s.seen ≡ xs)) (λ s. IsImage s xs) a (λ s h. (let P : List ℕ → Type 0 = λ l. IsImage s l in subst P h.1 h.0)) (seen_before xs a mid stands is read)
+pub read_before : (xs : List ℕ) (a mid : Option (List Crash)) → Now Stands a → mid ≡ pushed synced a → IfSome mid (λ ss. xs ≡ seen_now ss) → Now (IsRead xs) a
+read_before xs a mid stands is read =
+    now_map (λ s. Stands s × (s.seen ≡ xs)) (IsRead xs) a (λ s h. (let P : List ℕ → Type 0 = λ l. IsImage s l in record { image = subst P h.1 h.0; seen = h.1 })) (seen_before xs a mid stands is read)
 
 pub settled_still : (a mid : Option (List Crash)) → mid ≡ pushed synced a → Now IsStill mid
 settled_still None mid is = let P : Option (List Crash) → Type 0 = λ o. Now IsStill o in subst P (sym is) tt

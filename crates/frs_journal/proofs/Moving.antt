@@ -9,6 +9,7 @@ use Rattle.frs_journal.specs.Gates.{FailsEarly}
 use Rattle.frs_journal.specs.Loads.{AnyMoment, Loads, LoadsStep, StopsAt}
 use Rattle.frs_journal.specs.Rests.{AtOnce, Kept}
 use Rattle.frs_journal.specs.Slots.{slot_a, slot_b}
+use Rattle.frs_journal.specs.State.{State, StopsAsArmed}
 use Rattle.frs_journal.specs.declared.faults.ApplyFault.{ApplyFault}
 use Rattle.frs_journal.specs.declared.faults.ApplyFault.TheVariants.{Memory, DiskFault, JournalFull, Shut}
 use Rattle.frs_journal.proofs.Commits.{always_any, any_same, commit_early}
@@ -73,6 +74,15 @@ module _ {M C : Type 0} (law : Rules M C) where
   stops_from m m' k k' a a' an b b' bn x x' y same_m same_k same_a same_b same_x (inr (n, more, less, fails)) =
       let P : Alarm → Type 0 = λ z. FailsAt n z y in
       inr (n, more, less, subst P same_x fails)
+
+  pub armed_from : {N D : Type 0} (f : D → Option (List Crash)) (new : State N D) (a a' : Alarm) (m m' : M) (k k' : ℕ) (z z' : C) → a' ≡ a → m' ≡ m → k' ≡ k → z' ≡ z
+      → StopsAsArmed f a' law m' k' z' new → StopsAsArmed f a law m k z new
+  armed_from f new a a' m m' k k' z z' same_a same_m same_k same_z h =
+      let A : Alarm → Type 0 = λ x. StopsAsArmed f x law m k z new in
+      let P : M → Type 0 = λ s. StopsAsArmed f a' law s k z new in
+      let Q : ℕ → Type 0 = λ n. StopsAsArmed f a' law m' n z new in
+      let R : C → Type 0 = λ c. StopsAsArmed f a' law m' k' c new in
+      subst A same_a (subst P same_m (subst Q same_k (subst R same_z h)))
 
 -- faults
 pub no_device : (e : ApplyFault) (b : Bool) (n : ℕ) → IsRefused e b n → IsDiskFault e → ⊥

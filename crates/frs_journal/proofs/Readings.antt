@@ -4,8 +4,8 @@ use Rattle.frs_base.specs.Machines.{Rules}
 use Rattle.frs_disk.specs.Crashes.{Crash, IsImage, Within, unchanged}
 use Rattle.frs_disk.specs.Moments.{Now, Since, Stops, top}
 use Rattle.frs_disk.proofs.Moments.{goes_map}
-use Rattle.frs_journal.specs.Damage.{DamagedIn, IsDamaged, ReadDamaged, TakenDamaged}
-use Rattle.frs_journal.specs.Faults.{IsFreshFault, IsUnread}
+use Rattle.frs_journal.specs.Damage.{DamagedIn, IsDamaged, IsRead, ReadDamaged, TakenDamaged}
+use Rattle.frs_journal.specs.Faults.{IsDeviceFault, IsUnread}
 use Rattle.frs_journal.specs.Loads.{AnyMoment, NowLeaves}
 use Rattle.frs_journal.specs.Opens.{OpenFault}
 use Rattle.frs_journal.specs.Picks.{Picks}
@@ -44,7 +44,7 @@ module _ {M C : Type 0} (law : Rules M C) where
   open_damaged slot slot' bytes (why.DiskFault count) before now e h = tt
   open_damaged slot slot' bytes (why.Damaged s offset) before now e h = (h.0 ∙ e, h.1)
 
-  pub fresh_damaged : (a b : List ℕ) (w : LoadWhy) (before now : ℕ) → IsFreshFault w before now → DamagedIn law a b w
+  pub fresh_damaged : (a b : List ℕ) (w : LoadWhy) (before now : ℕ) → IsDeviceFault w before now → DamagedIn law a b w
   fresh_damaged a b why.Memory before now h = tt
   fresh_damaged a b (why.DiskFault count) before now h = tt
   fresh_damaged a b (why.Damaged s offset) before now h = absurd h
@@ -61,12 +61,12 @@ module _ {M C : Type 0} (law : Rules M C) where
   taken_damaged_b a b (why.Damaged s offset) p h =
       let P : Slot → Type 0 = λ x. IsDamaged law a b x offset in subst P (sym h.0) (inr (p.0, p.1, p.3, h.1))
 
-  pub read_damaged : (a b : List ℕ) (w : LoadWhy) (a_told b_told : Option (List Crash)) → Now (λ s. IsImage s a) a_told → Now (λ s. IsImage s b) b_told → DamagedIn law a b w → ReadDamaged law w a_told b_told
+  pub read_damaged : (a b : List ℕ) (w : LoadWhy) (a_told b_told : Option (List Crash)) → Now (IsRead a) a_told → Now (IsRead b) b_told → DamagedIn law a b w → ReadDamaged law w a_told b_told
   read_damaged a b why.Memory a_told b_told ia ib h = tt
   read_damaged a b (why.DiskFault count) a_told b_told ia ib h = tt
   read_damaged a b (why.Damaged s offset) a_told b_told ia ib h = (a, b, ia, ib, h)
 
-  pub unread_damaged : (w : LoadWhy) (a_told b_told : Option (List Crash)) → IsUnread w → ReadDamaged law w a_told b_told
-  unread_damaged why.Memory a_told b_told h = tt
-  unread_damaged (why.DiskFault count) a_told b_told h = tt
-  unread_damaged (why.Damaged s offset) a_told b_told h = absurd h
+  pub unread_damaged : (w : LoadWhy) (a a' b b' : ℕ) (a_told b_told : Option (List Crash)) → IsUnread w a a' b b' → ReadDamaged law w a_told b_told
+  unread_damaged why.Memory a a' b b' a_told b_told h = tt
+  unread_damaged (why.DiskFault count) a a' b b' a_told b_told h = tt
+  unread_damaged (why.Damaged s offset) a a' b b' a_told b_told h = absurd h

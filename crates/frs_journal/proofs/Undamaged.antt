@@ -8,7 +8,7 @@ use Rattle.std.specs.Prelude.{MatchOption}
 use Rattle.frs_base.specs.Machines.{Lawful, Rules}
 use Rattle.frs_journal.specs.Damage.{IsBroken, IsDamaged}
 use Rattle.frs_journal.specs.Loads.{Counts, IsMark, Loads}
-use Rattle.frs_journal.specs.Reading.{CountsTooMany, LacksRecord, ReadTo, generation_at}
+use Rattle.frs_journal.specs.Reading.{CountsTooMany, LacksRecord, generation_at}
 use Rattle.frs_journal.specs.Slots.{Holds, IsList, IsShort, framed, generation_of, head, opened, serial_at, slot_front, taken, takes_b}
 use Rattle.frs_journal.specs.declared.faults.Slot.{Slot}
 use Rattle.frs_journal.specs.declared.faults.Slot.TheVariants.{A, B}
@@ -23,7 +23,7 @@ next_byte [] gate more = (gate, more, refl)
 next_byte (p ∷ ps) gate more = (1, (framed p ++ opened ps) ++ gate ∷ more, refl)
 
 -- a payload behind the others, whole and with a gate behind it
-record Next (ps qs : List (List ℕ)) (rest : List ℕ) : Type 0 where
+pub record Next (ps qs : List (List ℕ)) (rest : List ℕ) : Type 0 where
   payload : List ℕ
   others : List (List ℕ)
   gate : ℕ
@@ -32,9 +32,9 @@ record Next (ps qs : List (List ℕ)) (rest : List ℕ) : Type 0 where
   short : IsShort payload
   whole : rest ≡ framed payload ++ gate ∷ more
 
-next_payload : (ps qs : List (List ℕ)) (gate : ℕ) (rest more : List ℕ) → All IsShort ps → All IsShort qs → (gate ≡ 1 → ⊥) → opened ps ++ 1 ∷ rest ≡ opened qs ++ gate ∷ more → Next ps qs rest
-next_payload [] [] gate rest more sp sq closed is = absurd (closed (sym (ap (λ (l : List ℕ). get_or l 0 0) is)))
-next_payload [] (q ∷ qs) gate rest more sp sq closed is =
+-- the first of records
+pub first_next : (q : List ℕ) (qs : List (List ℕ)) (gate : ℕ) (rest more : List ℕ) → All IsShort (q ∷ qs) → 1 ∷ rest ≡ opened (q ∷ qs) ++ gate ∷ more → Next [] (q ∷ qs) rest
+first_next q qs gate rest more short is =
     let n = next_byte qs gate more in
     record {
       payload = q;
@@ -42,19 +42,34 @@ next_payload [] (q ∷ qs) gate rest more sp sq closed is =
       gate = n.0;
       more = n.1;
       list = refl;
-      short = All-head IsShort q qs sq;
+      short = All-head IsShort q qs short;
       whole = ap (λ (l : List ℕ). drop 1 l) is ∙ append_assoc (framed q) (opened qs) (gate ∷ more) ∙ ap (λ (l : List ℕ). framed q ++ l) n.2;
     }
+
+-- the same behind one record more
+pub next_more : (p q : List ℕ) (ps qs : List (List ℕ)) (rest : List ℕ) → p ≡ q → Next ps qs rest → Next (p ∷ ps) (q ∷ qs) rest
+next_more p q ps qs rest same n =
+    record { payload = n.payload; others = n.others; gate = n.gate; more = n.more; list = λ i. sym same i ∷ n.list i; short = n.short; whole = n.whole }
+
+-- two lists of records that go on with other bytes begin with one payload, and go on behind it
+pub behind_first : (p q : List ℕ) (ps qs : List (List ℕ)) (u v : List ℕ) → All IsShort (p ∷ ps) → All IsShort (q ∷ qs) → opened (p ∷ ps) ++ u ≡ opened (q ∷ qs) ++ v
+    → (p ≡ q) × (opened ps ++ u ≡ opened qs ++ v)
+behind_first p q ps qs u v sp sq is =
+    let e : framed p ++ (opened ps ++ u) ≡ framed q ++ (opened qs ++ v) =
+    sym (append_assoc (framed p) (opened ps) u) ∙ ap (λ (l : List ℕ). drop 1 l) is ∙ append_assoc (framed q) (opened qs) v in
+    let same : p ≡ q = framed_same p q (opened ps ++ u) (opened qs ++ v) (All-head IsShort p ps sp) (All-head IsShort q qs sq) e in (
+      same,
+      sym (drop_at (framed p) (opened ps ++ u) (length (framed p)) refl) ∙ ap (λ (l : List ℕ). drop (length (framed p)) l) e
+          ∙ drop_at (framed q) (opened qs ++ v) (length (framed p)) (ap (λ (l : List ℕ). length (framed l)) (sym same)),
+    )
+
+next_payload : (ps qs : List (List ℕ)) (gate : ℕ) (rest more : List ℕ) → All IsShort ps → All IsShort qs → (gate ≡ 1 → ⊥) → opened ps ++ 1 ∷ rest ≡ opened qs ++ gate ∷ more → Next ps qs rest
+next_payload [] [] gate rest more sp sq closed is = absurd (closed (sym (ap (λ (l : List ℕ). get_or l 0 0) is)))
+next_payload [] (q ∷ qs) gate rest more sp sq closed is = first_next q qs gate rest more sq is
 next_payload (p ∷ ps) [] gate rest more sp sq closed is = absurd (closed (sym (ap (λ (l : List ℕ). get_or l 0 0) is)))
 next_payload (p ∷ ps) (q ∷ qs) gate rest more sp sq closed is =
-    let e : framed p ++ (opened ps ++ 1 ∷ rest) ≡ framed q ++ (opened qs ++ gate ∷ more) =
-    sym (append_assoc (framed p) (opened ps) (1 ∷ rest)) ∙ ap (λ (l : List ℕ). drop 1 l) is ∙ append_assoc (framed q) (opened qs) (gate ∷ more) in
-    let same : p ≡ q = framed_same p q (opened ps ++ 1 ∷ rest) (opened qs ++ gate ∷ more) (All-head IsShort p ps sp) (All-head IsShort q qs sq) e in
-    let f : opened ps ++ 1 ∷ rest ≡ opened qs ++ gate ∷ more =
-    sym (drop_at (framed p) (opened ps ++ 1 ∷ rest) (length (framed p)) refl) ∙ ap (λ (l : List ℕ). drop (length (framed p)) l) e
-    ∙ drop_at (framed q) (opened qs ++ gate ∷ more) (length (framed p)) (ap (λ (l : List ℕ). length (framed l)) (sym same)) in
-    let n = next_payload ps qs gate rest more (All-tail IsShort p ps sp) (All-tail IsShort q qs sq) closed f in
-    record { payload = n.payload; others = n.others; gate = n.gate; more = n.more; list = λ i. sym same i ∷ n.list i; short = n.short; whole = n.whole }
+    let on = behind_first p q ps qs (1 ∷ rest) (gate ∷ more) sp sq is in
+    next_more p q ps qs rest on.0 (next_payload ps qs gate rest more (All-tail IsShort p ps sp) (All-tail IsShort q qs sq) closed on.1)
 
 tails : {X : Type 0} (x y : X) (xs ys : List X) → x ∷ xs ≡ y ∷ ys → xs ≡ ys
 tails x y xs ys e = cc
@@ -89,24 +104,11 @@ module _ {M C : Type 0} (law : Rules M C) (lawful : Lawful law) where
   which (a ∷ []) (b ∷ (b' ∷ bs)) m n xs ys r rs hp hq kx ky e = absurd hq
   which (a ∷ (a' ∷ as')) q m n xs ys r rs hp hq kx ky e = absurd hp
 
-  lacks_none : (bytes : List ℕ) (at : ℕ) (q : List (List ℕ)) (n : ℕ) (ys : List C) → LacksRecord law bytes at → IsMark q n → All law.is_cmd ys → Holds bytes (q ++ map law.code ys) → ⊥
-  lacks_none bytes at q n ys l marked known h = by_kind (which b.mark q l.saved n l.commands ys next.payload next.others b.marked marked b.known known next.list)
+  -- the payload behind the records up to a place that lacks one isn't there
+  pub lacks_next : (bytes : List ℕ) (at : ℕ) (q : List (List ℕ)) (n : ℕ) (ys : List C) → (l : LacksRecord law bytes at) → IsMark q n → All law.is_cmd ys
+      → Next (l.before.mark ++ map law.code l.commands) (q ++ map law.code ys) (drop (at + 1) bytes) → ⊥
+  lacks_next bytes at q n ys l marked known next = by_kind (which l.before.mark q l.saved n l.commands ys next.payload next.others l.before.marked marked l.before.known known next.list)
     where
-      b : ReadTo law bytes at l.saved l.commands
-      b = l.before
-
-      front : List (List ℕ)
-      front = l.before.mark ++ map law.code l.commands
-
-      whole : bytes ≡ slot_front (generation_at bytes) (serial_at bytes) (l.before.mark ++ map law.code l.commands) ++ 1 ∷ drop (at + 1) bytes
-      whole = read_whole law bytes at l.saved l.commands l.before
-          ∙ ap (λ (x : ℕ). slot_front (generation_at bytes) (serial_at bytes) (l.before.mark ++ map law.code l.commands) ++ x ∷ drop (at + 1) bytes) l.open_gate
-
-      next : Next (l.before.mark ++ map law.code l.commands) (q ++ map law.code ys) (drop (at + 1) bytes)
-      next = next_payload (l.before.mark ++ map law.code l.commands) (q ++ map law.code ys) h.gate (drop (at + 1) bytes) h.rest l.before.short h.short h.closed
-          (sym (behind_head (generation_at bytes) (serial_at bytes) (l.before.mark ++ map law.code l.commands) 1 (drop (at + 1) bytes)) ∙ ap (λ (x : List ℕ). drop 25 x) (sym whole ∙ h.bytes)
-          ∙ behind_head h.generation h.serial (q ++ map law.code ys) h.gate h.rest)
-
       by_kind : ((z : C) × law.is_cmd z × (law.code z ≡ next.payload)) ⊎ (Counts next.payload n × (l.before.mark ++ map law.code l.commands ≡ [])) → ⊥
       by_kind (inl (z, cmd, is)) =
           let P : List ℕ → Type 0 = λ x. IsShort x in
@@ -116,6 +118,20 @@ module _ {M C : Type 0} (law : Rules M C) (lawful : Lawful law) where
           let opens : get_or bytes 25 0 ≡ 1 = ap (λ k. get_or bytes k 0) (sym place) ∙ l.open_gate in
           let next_is : drop 26 bytes ≡ framed next.payload ++ next.gate ∷ next.more = ap (λ k. drop (k + 1) bytes) (sym place) ∙ next.whole in
           l.before.no_count place opens next.payload n next.gate next.more counts next_is
+
+  -- the bytes of a slot by the records up to a place that lacks one
+  pub lacks_whole : (bytes : List ℕ) (at : ℕ) → (l : LacksRecord law bytes at)
+      → bytes ≡ slot_front (generation_at bytes) (serial_at bytes) (l.before.mark ++ map law.code l.commands) ++ 1 ∷ drop (at + 1) bytes
+  lacks_whole bytes at l =
+      read_whole law bytes at l.saved l.commands l.before
+      ∙ ap (λ (x : ℕ). slot_front (generation_at bytes) (serial_at bytes) (l.before.mark ++ map law.code l.commands) ++ x ∷ drop (at + 1) bytes) l.open_gate
+
+  pub lacks_none : (bytes : List ℕ) (at : ℕ) (q : List (List ℕ)) (n : ℕ) (ys : List C) → LacksRecord law bytes at → IsMark q n → All law.is_cmd ys → Holds bytes (q ++ map law.code ys) → ⊥
+  lacks_none bytes at q n ys l marked known h =
+      lacks_next bytes at q n ys l marked known
+      (next_payload (l.before.mark ++ map law.code l.commands) (q ++ map law.code ys) h.gate (drop (at + 1) bytes) h.rest l.before.short h.short h.closed
+      (sym (behind_head (generation_at bytes) (serial_at bytes) (l.before.mark ++ map law.code l.commands) 1 (drop (at + 1) bytes)) ∙ ap (λ (x : List ℕ). drop 25 x) (sym (lacks_whole bytes at l) ∙ h.bytes)
+      ∙ behind_head h.generation h.serial (q ++ map law.code ys) h.gate h.rest))
 
   counts_none : (bytes : List ℕ) (q : List (List ℕ)) (n : ℕ) (ys : List C) → CountsTooMany law bytes → IsMark q n → n ≤ length ys → All law.is_cmd ys → Holds bytes (q ++ map law.code ys) → ⊥
   counts_none bytes q n ys t marked enough known h =

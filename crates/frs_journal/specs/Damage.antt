@@ -43,14 +43,19 @@ DamagedIn law a b why.Memory = Unit
 DamagedIn law a b (why.DiskFault count) = Unit
 DamagedIn law a b (why.Damaged slot offset) = IsDamaged law a b slot offset
 
--- the same of bytes that a crash may leave
+-- a read gives these bytes, and a crash may leave them
+pub record IsRead (bytes : List ℕ) (s : Crash) : Type 0 where
+  pub image : IsImage s bytes
+  pub seen : s.seen ≡ bytes
+
+-- the same of the bytes that reads give
 abbrev pub ReadDamaged : {S C : Type 0} → Rules S C → LoadWhy → Option (List Crash) → Option (List Crash) → Type 0
 ReadDamaged law why.Memory a_told b_told = Unit
 ReadDamaged law (why.DiskFault count) a_told b_told = Unit
 ReadDamaged law (why.Damaged slot offset) a_told b_told =
-    (a : List ℕ) × (b : List ℕ) × Now (λ s. IsImage s a) a_told × Now (λ s. IsImage s b) b_told × IsDamaged law a b slot offset
+    (a : List ℕ) × (b : List ℕ) × Now (IsRead a) a_told × Now (IsRead b) b_told × IsDamaged law a b slot offset
 
--- bytes that a crash may leave load to this state
+-- the bytes that reads give load to this state
 abbrev pub ReadLoads : {S C : Type 0} → Rules S C → S → ℕ → Option (List Crash) → Option (List Crash) → Type 0
 ReadLoads law state serial a_told b_told =
-    (a : List ℕ) × (b : List ℕ) × Now (λ s. IsImage s a) a_told × Now (λ s. IsImage s b) b_told × Loads law state serial a b
+    (a : List ℕ) × (b : List ℕ) × Now (IsRead a) a_told × Now (IsRead b) b_told × Loads law state serial a b

@@ -1,5 +1,5 @@
 -- When each fault of a journal may come.
-use Rattle.std.specs.Prelude.{ℕ, ◌≡◌, ◌≤◌, ◌<◌, ◌^◌, Bool, true}
+use Rattle.std.specs.Prelude.{ℕ, ◌≡◌, ◌≤◌, ◌<◌, ◌⊎◌, ◌^◌, Bool, true}
 use Rattle.frs_disk.specs.Alarms.{Rose}
 use Rattle.frs_journal.specs.declared.faults.ApplyFault.{ApplyFault}
 use Rattle.frs_journal.specs.declared.faults.ApplyFault.TheVariants.{Memory, DiskFault, JournalFull, Shut}
@@ -34,14 +34,30 @@ IsCommitFault (DiskFault count) before now = (count ≡ now) × Rose before now
 IsCommitFault (JournalFull n) before now = ⊥
 IsCommitFault Shut before now = ⊥
 
--- the fault of a fresh journal, by the faults of slot a's disk before and now
-abbrev pub IsFreshFault : LoadWhy → ℕ → ℕ → Type 0
-IsFreshFault why.Memory before now = Unit
-IsFreshFault (why.DiskFault count) before now = (count ≡ now) × Rose before now
-IsFreshFault (why.Damaged slot offset) before now = ⊥
+-- a disk counts so many faults, more than before
+abbrev pub IsCounted : ℕ → ℕ → ℕ → Type 0
+IsCounted count before now = (count ≡ now) × Rose before now
 
--- why two slots weren't read
-abbrev pub IsUnread : LoadWhy → Type 0
-IsUnread why.Memory = Unit
-IsUnread (why.DiskFault count) = Unit
-IsUnread (why.Damaged slot offset) = ⊥
+-- memory ran out, or a call of this disk failed, by its faults before and now
+abbrev pub IsDeviceFault : LoadWhy → ℕ → ℕ → Type 0
+IsDeviceFault why.Memory before now = Unit
+IsDeviceFault (why.DiskFault count) before now = IsCounted count before now
+IsDeviceFault (why.Damaged slot offset) before now = ⊥
+
+-- the same, or a slot is damaged
+abbrev pub IsSlotFault : LoadWhy → ℕ → ℕ → Type 0
+IsSlotFault why.Memory before now = Unit
+IsSlotFault (why.DiskFault count) before now = IsCounted count before now
+IsSlotFault (why.Damaged slot offset) before now = Unit
+
+-- memory ran out, or a call of one of two disks failed, by the faults of each before and now
+abbrev pub IsUnread : LoadWhy → ℕ → ℕ → ℕ → ℕ → Type 0
+IsUnread why.Memory a a' b b' = Unit
+IsUnread (why.DiskFault count) a a' b b' = IsCounted count a a' ⊎ IsCounted count b b'
+IsUnread (why.Damaged slot offset) a a' b b' = ⊥
+
+-- the same, or a slot is damaged
+abbrev pub IsLoadFault : LoadWhy → ℕ → ℕ → ℕ → ℕ → Type 0
+IsLoadFault why.Memory a a' b b' = Unit
+IsLoadFault (why.DiskFault count) a a' b b' = IsCounted count a a' ⊎ IsCounted count b b'
+IsLoadFault (why.Damaged slot offset) a a' b b' = Unit

@@ -1,8 +1,11 @@
 -- A slot's last gate.
-use Rattle.std.specs.Prelude.{ℕ, ◌≡◌, ◌≤◌, ◌<◌, ◌⊎◌, List, [], ◌∷◌, ◌++◌, length, take, Option, Some, None}
-use Rattle.frs_disk.specs.Alarms.{Alarm, FailsAt}
+use Rattle.std.specs.Bool.{MatchBool}
+use Rattle.std.specs.Prelude.{ℕ, ◌≡◌, ◌≤◌, ◌<◌, ◌⊎◌, nat_le, Bool, true, false, List, [], ◌∷◌, ◌++◌, length, take, Option, Some, None}
+use Rattle.frs_disk.specs.Alarms.{Alarm, Armed, FailsAt}
 use Rattle.frs_disk.specs.Crashes.{Crash, Leaves, still}
 use Rattle.frs_disk.specs.Moments.{Goes, Now, seen_now}
+use Rattle.frs_disk.specs.declared.image.Image.{Image}
+use Rattle.frs_disk.specs.declared.image.Image.TheVariants.{With, Without}
 
 -- the slot ends with a gate at this place that isn't 1, all of it on the disk
 pub record IsAtRest (gate : ℕ) (s : Crash) : Type 0 where
@@ -40,6 +43,24 @@ Shutting gate (Some ss) new = Goes (Leaves (Shut (take gate (seen_now ss)))) (So
 abbrev pub FailsEarly : ℕ → Alarm → Alarm → Option (List Crash) → Option (List Crash) → Type 0
 FailsEarly gate before now old new =
     ((k : ℕ) × (k < 2) × FailsAt k before now × Shutting gate old new) ⊎ ((k : ℕ) × (1 < k) × (k < 4) × FailsAt k before now)
+
+-- whether a read finds the gate opened behind an append's armed call, by how many of the four calls came before it and by what it leaves
+abbrev pub lands : ℕ → Option Image → Bool
+lands before (Some With) = nat_le 2 before
+lands before (Some Without) = false
+lands before None = nat_le 3 before
+
+-- a read finds the front, the opened gate and the body; or the front and a gate that isn't 1
+abbrev pub Found : ℕ → List ℕ → Bool → Option (List Crash) → Option (List Crash) → Type 0
+Found gate body landed None new = new ≡ None
+Found gate body landed (Some ss) new =
+    Now (λ s. MatchBool landed (s.seen ≡ take gate (seen_now ss) ++ 1 ∷ body) (Shut (take gate (seen_now ss)) s.seen)) new
+
+-- on a disk that fails where a call is armed alone, and leaves what was armed: the armed call was one of an append's four, and a read finds what it leaves
+abbrev pub FoundAsArmed : ℕ → List ℕ → Alarm → Option (List Crash) → Option (List Crash) → Type 0
+FoundAsArmed gate body alarm old new =
+    alarm.quiet ≡ true → alarm.exact ≡ true
+    → (call : Armed) × (alarm.armed ≡ Some call) × (call.before < 4) × Found gate body (lands call.before call.image) old new
 
 -- the gate is open, and the body stands behind it, on the disk
 abbrev pub Appended : ℕ → List ℕ → Option (List Crash) → Option (List Crash) → Type 0

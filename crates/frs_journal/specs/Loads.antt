@@ -1,5 +1,5 @@
 -- What two slots stand for.
-use Rattle.std.specs.Prelude.{ℕ, ◌≡◌, ◌≤◌, ◌+◌, ◌-◌, ◌∷◌, [], ◌++◌, ◌%◌, ◌⊎◌, ◌^◌, ◌<◌, List, length, map, Option}
+use Rattle.std.specs.Prelude.{ℕ, ◌≡◌, ◌≤◌, ◌+◌, ◌-◌, ◌∷◌, [], ◌++◌, ◌%◌, ◌⊎◌, ◌^◌, ◌<◌, Bool, true, false, List, length, map, Option}
 use Rattle.std.specs.Int.{from_le_bytes, w64}
 use Rattle.std.specs.List.{All}
 use Rattle.frs_base.specs.Machines.{Rules, Runs}
@@ -38,6 +38,11 @@ abbrev pub LoadsStep : {S C : Type 0} → Rules S C → S → ℕ → C → List
 LoadsStep {S = S} law state serial cmd a b =
     Loads law state serial a b ⊎ ((after : S) × law.step state cmd after × Loads law after ((serial + 1) % 2 ^ 64) a b)
 
+-- a load gives what a command makes of this state, or this state, by whether the command is on the disk
+abbrev pub LoadsLanded : {S C : Type 0} → Rules S C → S → ℕ → C → Bool → List ℕ → List ℕ → Type 0
+LoadsLanded {S = S} law state serial cmd true a b = (after : S) × law.step state cmd after × Loads law after ((serial + 1) % 2 ^ 64) a b
+LoadsLanded law state serial cmd false a b = Loads law state serial a b
+
 -- a load gives one of two states
 abbrev pub LoadsEither : {S C : Type 0} → Rules S C → S → ℕ → S → ℕ → List ℕ → List ℕ → Type 0
 LoadsEither law m k n l a b = Loads law m k a b ⊎ Loads law n l a b
@@ -49,6 +54,11 @@ AnyMoment Q a_old a_new b_old b_new = (a b : List ℕ) → MightLeave a_old a_ne
 -- each two images are so that a crash of the two disks may leave now
 abbrev pub NowLeaves : (List ℕ → List ℕ → Type 0) → Option (List Crash) → Option (List Crash) → Type 0
 NowLeaves Q a_told b_told = (a b : List ℕ) → MayLeave a_told a → MayLeave b_told b → Q a b
+
+-- two slots load to one of two states at each moment since, where they did before
+abbrev pub KeepsEither : {S C : Type 0} → Rules S C → Option (List Crash) → Option (List Crash) → Option (List Crash) → Option (List Crash) → Type 0
+KeepsEither {S = S} law a_old a_new b_old b_new =
+    (m n : S) (k l : ℕ) → NowLeaves (LoadsEither law m k n l) a_old b_old → AnyMoment (LoadsEither law m k n l) a_old a_new b_old b_new
 
 -- the device call that failed, of a commit's four, was one of the first two, and at each moment since a load gives the state before; or it was one of the last two
 abbrev pub StopsAt : {S C : Type 0} → Rules S C → S → ℕ → Option (List Crash) → Option (List Crash) → Option (List Crash) → Option (List Crash) → Alarm → Alarm → Type 0

@@ -3,7 +3,7 @@ ghost use Rattle.std.specs.Prelude.{◌≡◌, [], false, IfOk, IfErr};
 ghost use Rattle.frs_base.specs.Machines.{IsFresh};
 ghost use Rattle.frs_disk.specs.Crashes.{IsStill, Leaves};
 ghost use Rattle.frs_disk.specs.Moments.{Now};
-ghost use Rattle.frs_journal.specs.Faults.{IsFreshFault};
+ghost use Rattle.frs_journal.specs.Faults.{IsDeviceFault};
 ghost use Rattle.frs_journal.specs.Gates.{Has, OrSame};
 ghost use Rattle.frs_journal.specs.Loads.{AnyMoment, Loads};
 ghost use Rattle.frs_journal.specs.State as state;
@@ -40,7 +40,7 @@ impl<M: Machine, D: FrsDisk> Journalled<M, D> {
             (D.states disk_a) (D.states (state.disk_a j)) (D.states disk_b) (D.states (state.disk_b j))) }
         ensures failed { IfErr result (λ f. AnyMoment (Loads M.law (M.state machine) 0)
             (D.states disk_a) (D.states f.disk_a) (D.states disk_b) (D.states f.disk_b)) }
-        ensures fault { IfErr result (λ f. IsFreshFault f.why (D.alarm disk_a).faults (D.alarm f.disk_a).faults) }
+        ensures fault { IfErr result (λ f. IsDeviceFault f.why (D.alarm disk_a).faults (D.alarm f.disk_a).faults) }
     {
         begin(alloc, machine, disk_a, disk_b)
     }
@@ -60,7 +60,7 @@ pub(crate) fn begin<M: Machine, D: FrsDisk>(
     ensures made { IfOk result (λ j. (j.machine ≡ machine) × (j.end ≡ 26) × (j.serial ≡ 0) × (j.shut ≡ false)) }
     ensures moved { IfOk result (λ j. OrSame IsBegun (D.states disk_a) (D.states j.current) × (j.other ≡ disk_b) × (j.in_b ≡ false)) }
     ensures failed { IfErr result (λ f. OrSame IsBegun (D.states disk_a) (D.states f.disk_a) × (f.disk_b ≡ disk_b)) }
-    ensures fault { IfErr result (λ f. IsFreshFault f.why (D.alarm disk_a).faults (D.alarm f.disk_a).faults) }
+    ensures fault { IfErr result (λ f. IsDeviceFault f.why (D.alarm disk_a).faults (D.alarm f.disk_a).faults) }
 {
     let mut disk_a = disk_a;
     let Ok(()) = disk_a.reserve(alloc, 8, 27) else {

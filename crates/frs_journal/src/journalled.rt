@@ -2,10 +2,10 @@
 ghost use Rattle.std.specs.Prelude.{◌≡◌, ◌≤◌, ◌<◌, ◌+◌, ◌-◌, ◌^◌, ◌%◌, ◌∷◌, ◌++◌, [], ℕ, length, false, true, Err, OnOk, OnErr, IfOk, IfErr, Some, None};
 ghost use Rattle.frs_disk.specs.Alarms.{Passes, armed_if, disarmed};
 ghost use Rattle.frs_journal.specs.Faults.{IsApplyFault, IsCommitFault, IsDiskFault, IsRefused};
-ghost use Rattle.frs_journal.specs.Loads.{Loads, LoadsStep, StopsAt};
+ghost use Rattle.frs_journal.specs.Loads.{Loads};
 ghost use Rattle.frs_journal.specs.Rests.{Kept};
 ghost use Rattle.frs_journal.specs.Slots.{framed};
-ghost use Rattle.frs_journal.specs.State.{AtMoments, AtPresent, SameJournal, disk_a, disk_b};
+ghost use Rattle.frs_journal.specs.State.{AtPresent, IsUnchanged, KeepsOrSteps, SameJournal, StopsAsArmed, StopsWithin, disk_a, disk_b};
 
 use crate::faults::ApplyFault;
 use crate::slot::append_record;
@@ -175,7 +175,8 @@ impl<M: Machine, D: FrsDisk> Journalled<M, D> {
             × (length p.body + 1 ≤ D.spare_bytes self.new.current)) }
         ensures room { IfOk result (λ p. self.new.end + length p.body ≤ 2 ^ 32) }
         ensures open { OnOk result (self.old.shut ≡ false) }
-        ensures refused { IfErr result (λ e. IsRefused e self.old.shut (self.old.end + length (M.law.code cmd) + 5)) }
+        ensures refused { IfErr result (λ e. IsRefused e self.old.shut
+            (self.old.end + length (M.law.code cmd) + 5)) }
         ensures shut { self.old.shut ≡ true → result ≡ Err ApplyFault.Shut }
         ensures machine { M.state self.new.machine ≡ M.state self.old.machine }
         ensures states { D.states self.new.current ≡ D.states self.old.current }
@@ -212,20 +213,27 @@ impl<M: Machine, D: FrsDisk> Journalled<M, D> {
         requires spare { (3 < D.spare_calls self.old.current)
             × (length prepared.body + 1 ≤ D.spare_bytes self.old.current) }
         requires room { self.old.end + length prepared.body ≤ 2 ^ 32 }
-        ensures step { OnOk result (M.law.step (M.state self.old.machine) (M.command prepared.ready) (M.state self.new.machine)) }
+        ensures step { OnOk result (M.law.step (M.state self.old.machine)
+            (M.command prepared.ready) (M.state self.new.machine)) }
         ensures end { OnOk result (self.new.end ≡ self.old.end + length prepared.body) }
         ensures serial { OnOk result (self.new.serial ≡ (self.old.serial + 1) % 2 ^ 64) }
         ensures slot { self.new.in_b ≡ self.old.in_b }
-        ensures crash { AtMoments D.states (LoadsStep M.law (M.state self.old.machine) self.old.serial (M.command prepared.ready)) self.old self.new }
-        ensures done { OnOk result (AtPresent D.states (Loads M.law (M.state self.new.machine) self.new.serial) self.new) }
+        ensures crash { KeepsOrSteps D.states M.law (M.state self.old.machine) self.old.serial
+            (M.command prepared.ready) self.old self.new }
+        ensures done { OnOk result (AtPresent D.states
+            (Loads M.law (M.state self.new.machine) self.new.serial) self.new) }
         ensures open_still { OnOk result (self.new.shut ≡ false) }
         ensures shut { OnErr result (self.new.shut ≡ true) }
-        ensures alarm { OnOk result (Passes 4 (D.alarm self.old.current) (D.alarm self.new.current)) }
-        ensures stops { OnErr result (StopsAt M.law (M.state self.old.machine) self.old.serial
-            (D.states (disk_a self.old)) (D.states (disk_a self.new)) (D.states (disk_b self.old)) (D.states (disk_b self.new))
-            (D.alarm self.old.current) (D.alarm self.new.current)) }
-        ensures could { (after : M.State) × M.law.step (M.state self.old.machine) (M.command prepared.ready) after }
-        ensures fault { IfErr result (λ e. IsCommitFault e (D.alarm self.old.current).faults (D.alarm self.new.current).faults) }
+        ensures alarm { OnOk result
+            (Passes 4 (D.alarm self.old.current) (D.alarm self.new.current)) }
+        ensures stops { OnErr result (StopsWithin D.states D.alarm
+            M.law (M.state self.old.machine) self.old.serial self.old self.new) }
+        ensures word { OnErr result (StopsAsArmed D.states (D.alarm self.old.current)
+            M.law (M.state self.old.machine) self.old.serial (M.command prepared.ready) self.new) }
+        ensures could { (after : M.State)
+            × M.law.step (M.state self.old.machine) (M.command prepared.ready) after }
+        ensures fault { IfErr result (λ e. IsCommitFault e
+            (D.alarm self.old.current).faults (D.alarm self.new.current).faults) }
         ensures other { self.new.other ≡ self.old.other }
     {
         let Prepared { ready, body } = prepared;
@@ -244,27 +252,33 @@ impl<M: Machine, D: FrsDisk> Journalled<M, D> {
     /// Takes a command. A crash at any moment of the call leaves the state before or the state
     /// after, and once it is Ok the state after.
     pub fn apply(&mut self, alloc: Global, cmd: M::Cmd) -> Result<(), ApplyFault>
-        ensures step { OnOk result (M.law.step (M.state self.old.machine) cmd (M.state self.new.machine)) }
+        ensures step { OnOk result
+            (M.law.step (M.state self.old.machine) cmd (M.state self.new.machine)) }
         ensures end { OnOk result (self.new.end ≡ self.old.end + length (M.law.code cmd) + 5) }
         ensures fits { OnOk result (self.new.end ≤ 2 ^ 32) }
         ensures serial { OnOk result (self.new.serial ≡ (self.old.serial + 1) % 2 ^ 64) }
         ensures slot { self.new.in_b ≡ self.old.in_b }
-        ensures crash { self.old.shut ≡ false
-            → AtMoments D.states (LoadsStep M.law (M.state self.old.machine) self.old.serial cmd) self.old self.new }
-        ensures done { OnOk result (AtPresent D.states (Loads M.law (M.state self.new.machine) self.new.serial) self.new) }
+        ensures crash { self.old.shut ≡ false → KeepsOrSteps D.states
+            M.law (M.state self.old.machine) self.old.serial cmd self.old self.new }
+        ensures done { OnOk result (AtPresent D.states
+            (Loads M.law (M.state self.new.machine) self.new.serial) self.new) }
         ensures open { OnOk result ((self.old.shut ≡ false) × (self.new.shut ≡ false)) }
-        ensures fault { IfErr result (λ e. IsApplyFault e self.old.shut (self.old.end + length (M.law.code cmd) + 5)
+        ensures fault { IfErr result (λ e. IsApplyFault e self.old.shut
+            (self.old.end + length (M.law.code cmd) + 5)
             (D.alarm self.old.current).faults (D.alarm self.new.current).faults) }
         ensures was_shut { self.old.shut ≡ true → result ≡ Err ApplyFault.Shut }
         ensures shut { IfErr result (λ e. IsDiskFault e → self.new.shut ≡ true) }
-        ensures alarm { OnOk result (Passes 4 (D.alarm self.old.current) (D.alarm self.new.current)) }
-        ensures stops { IfErr result (λ e. IsDiskFault e → StopsAt M.law (M.state self.old.machine) self.old.serial
-            (D.states (disk_a self.old)) (D.states (disk_a self.new)) (D.states (disk_b self.old)) (D.states (disk_b self.new))
-            (D.alarm self.old.current) (D.alarm self.new.current)) }
-        ensures could { IfErr result (λ e. IsDiskFault e → (after : M.State) × M.law.step (M.state self.old.machine) cmd after) }
-        ensures refused { IfErr result (λ e. (IsDiskFault e → ⊥) → (M.state self.new.machine ≡ M.state self.old.machine)
-            × (D.states self.new.current ≡ D.states self.old.current) × (D.alarm self.new.current ≡ D.alarm self.old.current)
-            × SameJournal self.old self.new) }
+        ensures alarm { OnOk result
+            (Passes 4 (D.alarm self.old.current) (D.alarm self.new.current)) }
+        ensures stops { IfErr result (λ e. IsDiskFault e → StopsWithin D.states D.alarm
+            M.law (M.state self.old.machine) self.old.serial self.old self.new) }
+        ensures word { IfErr result (λ e. IsDiskFault e
+            → StopsAsArmed D.states (D.alarm self.old.current)
+            M.law (M.state self.old.machine) self.old.serial cmd self.new) }
+        ensures could { IfErr result (λ e. IsDiskFault e
+            → (after : M.State) × M.law.step (M.state self.old.machine) cmd after) }
+        ensures refused { IfErr result (λ e. (IsDiskFault e → ⊥)
+            → IsUnchanged M.state D.states D.alarm self.old self.new) }
         ensures other { self.new.other ≡ self.old.other }
     {
         let _ = &self.machine;
@@ -280,7 +294,8 @@ impl<M: Machine, D: ScriptDisk> Journalled<M, D> {
     pub fn arm(&mut self, call: u32, image: Image) -> bool
         requires { 0 < call }
         ensures can { result ≡ (D.FrsDisk.alarm self.old.current).can_crash }
-        ensures alarm { D.FrsDisk.alarm self.new.current ≡ armed_if result call (Some image) (D.FrsDisk.alarm self.old.current) }
+        ensures alarm { D.FrsDisk.alarm self.new.current
+            ≡ armed_if result call (Some image) (D.FrsDisk.alarm self.old.current) }
         ensures states { D.FrsDisk.states self.new.current ≡ D.FrsDisk.states self.old.current }
         ensures machine { self.new.machine ≡ self.old.machine }
         ensures same { SameJournal self.old self.new }
@@ -292,7 +307,8 @@ impl<M: Machine, D: ScriptDisk> Journalled<M, D> {
     pub fn fail(&mut self, call: u32) -> bool
         requires { 0 < call }
         ensures can { result ≡ (D.FrsDisk.alarm self.old.current).can_crash }
-        ensures alarm { D.FrsDisk.alarm self.new.current ≡ armed_if result call None (D.FrsDisk.alarm self.old.current) }
+        ensures alarm { D.FrsDisk.alarm self.new.current
+            ≡ armed_if result call None (D.FrsDisk.alarm self.old.current) }
         ensures states { D.FrsDisk.states self.new.current ≡ D.FrsDisk.states self.old.current }
         ensures machine { self.new.machine ≡ self.old.machine }
         ensures same { SameJournal self.old self.new }

@@ -18,3 +18,10 @@ pub fn never_damaged<M: Machine>()
     ensures { (m : M.State) (k : ℕ) (a b : List ℕ) (slot : Slot) (offset : ℕ)
         → Loads M.law m k a b → IsDamaged M.law a b slot offset → ⊥ }
 {}
+
+/// Two slots are damaged at one place at most, so that a load that finds them damaged answers the
+/// first place that is wrong.
+pub fn damaged_once<M: Machine>()
+    ensures { (a b : List ℕ) (s t : Slot) (k l : ℕ)
+        → IsDamaged M.law a b s k → IsDamaged M.law a b t l → (s ≡ t) × (k ≡ l) }
+{}

@@ -19,5 +19,5 @@ mod tests;
 
 pub use faults::{ApplyFault, LoadFault, LoadWhy, Slot};
 pub use journalled::{Journalled, Prepared};
-pub use laws::{loads_once, never_damaged};
+pub use laws::{damaged_once, loads_once, never_damaged};
 pub use slot::{append_record, clear, fill, renew, settle, trim};

@@ -4,9 +4,10 @@ ghost use Rattle.frs_base.specs.Machines.{IsFresh};
 ghost use Rattle.frs_disk.specs.Crashes.{IsStill, Leaves, Stands, synced, unchanged};
 ghost use Rattle.frs_disk.specs.Moments.{Now, Stops, pushed, seen_now};
 ghost use Rattle.frs_journal.specs.Damage.{DamagedIn, ReadDamaged, ReadLoads, TakenDamaged};
-ghost use Rattle.frs_journal.specs.Faults.{IsUnread};
+ghost use Rattle.frs_disk.specs.Alarms.{Passes};
+ghost use Rattle.frs_journal.specs.Faults.{IsDeviceFault, IsLoadFault, IsSlotFault, IsUnread};
 ghost use Rattle.frs_journal.specs.Gates.{OrSame};
-ghost use Rattle.frs_journal.specs.Loads.{AnyMoment, Loads, LoadsEither, NowLeaves};
+ghost use Rattle.frs_journal.specs.Loads.{KeepsEither, Loads};
 ghost use Rattle.frs_journal.specs.Opens.{SameList};
 ghost use Rattle.frs_journal.specs.Reading.{IsValid};
 ghost use Rattle.frs_journal.specs.Slots.{Yields, generation_of, slot_a, slot_b};
@@ -39,7 +40,8 @@ fn read_all<D: FrsDisk>(alloc: Global, disk: &mut D) -> Result<Vec<u8>, LoadWhy>
     ensures bytes { IfOk result (λ bytes. IfSome (D.states disk.old) (λ ss. bytes.items ≡ seen_now ss)) }
     ensures size { IfOk result (λ bytes. length bytes.items < 2 ^ 61) }
     ensures states { D.states disk.new ≡ D.states disk.old }
-    ensures why { IfErr result IsUnread }
+    ensures alarm { OnOk result (D.alarm disk.new ≡ D.alarm disk.old) }
+    ensures why { IfErr result (λ e. IsDeviceFault e (D.alarm disk.old).faults (D.alarm disk.new).faults) }
 {
     let Ok(length) = disk.length() else {
         return Err(LoadWhy::DiskFault {
@@ -74,7 +76,11 @@ fn read_both<D: FrsDisk>(alloc: Global, a: &mut D, b: &mut D) -> Result<Slots, L
     ensures bytes_b { IfOk result (λ s. IfSome (D.states b.new) (λ ss. s.b.items ≡ seen_now ss)) }
     ensures size_a { IfOk result (λ s. length s.a.items < 2 ^ 61) }
     ensures size_b { IfOk result (λ s. length s.b.items < 2 ^ 61) }
-    ensures why { IfErr result IsUnread }
+    ensures passed_a { OnOk result (Passes 1 (D.alarm a.old) (D.alarm a.new)) }
+    ensures passed_b { OnOk result (Passes 1 (D.alarm b.old) (D.alarm b.new)) }
+    ensures why { IfErr result (λ e. IsUnread e
+        (D.alarm a.old).faults (D.alarm a.new).faults
+        (D.alarm b.old).faults (D.alarm b.new).faults) }
 {
     let Ok(()) = a.reserve(alloc, 1, 0) else {
         return Err(LoadWhy::Memory);
@@ -88,12 +94,17 @@ fn read_both<D: FrsDisk>(alloc: Global, a: &mut D, b: &mut D) -> Result<Slots, L
     let Ok(()) = settle(b) else {
         return Err(LoadWhy::DiskFault { count: b.faults() });
     };
-    let first = read_all(alloc, a)?;
-    let second = read_all(alloc, b)?;
-    Ok(Slots {
-        a: first,
-        b: second,
-    })
+    let first = match read_all(alloc, a) {
+        Ok(bytes) => bytes,
+        Err(why) => return Err(why),
+    };
+    match read_all(alloc, b) {
+        Ok(second) => Ok(Slots {
+            a: first,
+            b: second,
+        }),
+        Err(why) => Err(why),
+    }
 }
 
 /// The slot that is current.
@@ -146,6 +157,8 @@ fn open_current<M: Machine, D: FrsDisk>(
     ensures state { IfOk result (λ j. (others : List ℕ) → Yields in_b (generation_of bytes.now) others
         → Loads M.law (M.state j.machine) j.serial (slot_a in_b bytes.now others) (slot_b in_b bytes.now others)) }
     ensures damaged { IfErr result (λ f. TakenDamaged M.law (if in_b then slots_of.B else slots_of.A) bytes.now f.why) }
+    ensures fault { IfErr result (λ f. IsSlotFault f.why
+        (D.alarm current).faults (D.alarm (slot_a in_b f.disk_a f.disk_b)).faults) }
     ensures origin { IfOk result (λ j. M.law.origin (M.state j.machine) ≡ M.law.origin (M.state machine)) }
 {
     let mut current = current;
@@ -183,6 +196,9 @@ fn open_slots<M: Machine, D: FrsDisk>(
         (D.states disk_a) (D.states f.disk_a) (D.states disk_b) (D.states f.disk_b)) }
     ensures state { IfOk result (λ j. Loads M.law (M.state j.machine) j.serial slots.now.a.items slots.now.b.items) }
     ensures damaged { IfErr result (λ f. DamagedIn M.law slots.now.a.items slots.now.b.items f.why) }
+    ensures fault { IfErr result (λ f. IsLoadFault f.why
+        (D.alarm disk_a).faults (D.alarm f.disk_a).faults
+        (D.alarm disk_b).faults (D.alarm f.disk_b).faults) }
     ensures open { IfOk result (λ j. j.shut ≡ false) }
     ensures origin { IfOk result (λ j. M.law.origin (M.state j.machine) ≡ M.law.origin (M.state machine)) }
 {
@@ -211,12 +227,18 @@ impl<M: Machine, D: FrsDisk> Journalled<M, D> {
         disk_b: D,
     ) -> Result<Journalled<M, D>, LoadFault<D>>
         requires fresh { IsFresh M.law (M.state machine) }
-        ensures state { IfOk result (λ j. ReadLoads M.law (M.state j.machine) j.serial (D.states disk_a) (D.states disk_b)) }
-        ensures damaged { IfErr result (λ f. ReadDamaged M.law f.why (D.states disk_a) (D.states disk_b)) }
-        ensures crash { IfOk result (λ j. (m n : M.State) (k l : ℕ) → NowLeaves (LoadsEither M.law m k n l) (D.states disk_a) (D.states disk_b)
-            → AnyMoment (LoadsEither M.law m k n l) (D.states disk_a) (D.states (state.disk_a j)) (D.states disk_b) (D.states (state.disk_b j))) }
-        ensures failed { IfErr result (λ f. (m n : M.State) (k l : ℕ) → NowLeaves (LoadsEither M.law m k n l) (D.states disk_a) (D.states disk_b)
-            → AnyMoment (LoadsEither M.law m k n l) (D.states disk_a) (D.states f.disk_a) (D.states disk_b) (D.states f.disk_b)) }
+        ensures state { IfOk result (λ j. ReadLoads
+            M.law (M.state j.machine) j.serial (D.states disk_a) (D.states disk_b)) }
+        ensures damaged { IfErr result (λ f. ReadDamaged
+            M.law f.why (D.states disk_a) (D.states disk_b)) }
+        ensures fault { IfErr result (λ f. IsLoadFault f.why
+            (D.alarm disk_a).faults (D.alarm f.disk_a).faults
+            (D.alarm disk_b).faults (D.alarm f.disk_b).faults) }
+        ensures crash { IfOk result (λ j. KeepsEither M.law
+            (D.states disk_a) (D.states (state.disk_a j))
+            (D.states disk_b) (D.states (state.disk_b j))) }
+        ensures failed { IfErr result (λ f. KeepsEither M.law
+            (D.states disk_a) (D.states f.disk_a) (D.states disk_b) (D.states f.disk_b)) }
         ensures open { IfOk result (λ j. j.shut ≡ false) }
         ensures origin { IfOk result (λ j. M.law.origin (M.state j.machine) ≡ M.state machine) }
     {

@@ -4,7 +4,7 @@ ghost use Rattle.std.specs.Prelude.{◌≡◌, ◌≤◌, ◌<◌, ◌+◌, ◌^
 ghost use Rattle.frs_disk.specs.Alarms.{Ticks, TicksUpTo};
 ghost use Rattle.frs_disk.specs.Crashes.{IsStill, Stands, synced, unchanged};
 ghost use Rattle.frs_disk.specs.Moments.{Now, Stops, pushed, seen_now};
-ghost use Rattle.frs_journal.specs.Gates.{Appended, Appending, Clearing, FailsEarly, Has, HasCut, IsAtRest, Renewing, Trimming};
+ghost use Rattle.frs_journal.specs.Gates.{Appended, Appending, Clearing, FailsEarly, FoundAsArmed, Has, HasCut, IsAtRest, Renewing, Trimming};
 
 use frs_disk::{Failed, FrsDisk, cut_synced, write_synced};
 
@@ -18,7 +18,10 @@ pub fn append_record<D: FrsDisk>(disk: &mut D, gate: u64, body: &[u8]) -> Result
     ensures inside { Appending gate body.now (D.states disk.old) (D.states disk.new) }
     ensures done { OnOk result (Appended gate body.now (D.states disk.old) (D.states disk.new)) }
     ensures alarm { TicksUpTo 4 result (D.alarm disk.old) (D.alarm disk.new) }
-    ensures early { OnErr result (FailsEarly gate (D.alarm disk.old) (D.alarm disk.new) (D.states disk.old) (D.states disk.new)) }
+    ensures early { OnErr result (FailsEarly gate
+        (D.alarm disk.old) (D.alarm disk.new) (D.states disk.old) (D.states disk.new)) }
+    ensures word { OnErr result (FoundAsArmed gate body.now
+        (D.alarm disk.old) (D.states disk.old) (D.states disk.new)) }
 {
     let Ok(()) = write_synced(disk, gate + 1, body) else {
         return Err(Failed);

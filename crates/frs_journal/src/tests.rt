@@ -1,4 +1,4 @@
-ghost use Rattle.std.specs.Prelude.{◌≡◌, []};
+ghost use Rattle.std.specs.Prelude.{◌≡◌, ◌<◌, []};
 
 mod tape;
 
@@ -49,6 +49,20 @@ fn journal(alloc: Global) -> Result<Journalled<Tape, MemDisk>, Fail> {
         MemDisk::new(alloc),
     );
     Ok(made.map_err(|fault| fault.why)?)
+}
+
+/// How many bytes a journal has, after how many commands.
+fn counts(journal: &Journalled<Tape, MemDisk>) -> (usize, u64) {
+    (journal.state().bytes.as_slice().len(), journal.serial())
+}
+
+/// How many bytes, after how many commands, these bytes of slot a load to, with an empty slot b.
+fn loaded(alloc: Global, bytes: &[u8]) -> Result<Option<(usize, u64)>, Fail> {
+    let disk = disk_of(alloc, bytes)?;
+    match Journalled::load(alloc, empty_tape(), disk, MemDisk::new(alloc)) {
+        Ok(journal) => Ok(Some(counts(&journal))),
+        Err(_) => Ok(None),
+    }
 }
 
 /// Why these bytes of slot a, with an empty slot b, aren't loaded.
@@ -106,6 +120,65 @@ fn a_command_is_one_record(rt: HostRuntime) -> Result<(), Fail> {
     Ok(())
 }
 
+/// A slot after a checkpoint: serial 5, a count of saved commands, the commands 7 and 8, and a
+/// closed gate.
+fn counted_slot(alloc: Global, saved: u8) -> Result<Vec<u8>, Fail> {
+    let mut bytes = Vec::from_slice(alloc, &FRESH[..17])?;
+    bytes.extend_from_slice(&[5, 0, 0, 0, 0, 0, 0, 0])?;
+    bytes.extend_from_slice(&[1, 9, 0, 0, 0, 0xff, saved, 0, 0, 0, 0, 0, 0, 0])?;
+    bytes.extend_from_slice(&[1, 2, 0, 0, 0, 0, 7, 1, 2, 0, 0, 0, 0, 8, 0])?;
+    Ok(bytes)
+}
+
+#[test]
+fn a_count_says_how_many_commands_were_saved(rt: HostRuntime) -> Result<(), Fail> {
+    let alloc = rt.alloc();
+    for (saved, serial) in [(0, 7), (1, 6), (2, 5)] {
+        let bytes = counted_slot(alloc, saved)?;
+        let found = loaded(alloc, bytes.as_slice())?;
+        assert_eq!(rt; found, Some((2, serial)), "with {saved} saved");
+    }
+    let why = LoadWhy::Damaged {
+        slot: Slot::A,
+        offset: 25,
+    };
+    let bytes = counted_slot(alloc, 3)?;
+    assert_eq!(rt; refusal(alloc, bytes.as_slice())?, Some(why));
+    Ok(())
+}
+
+/// Why two commands aren't taken of which the first one's call of this number is armed.
+fn refusals(
+    alloc: Global,
+    journal: &mut Journalled<Tape, MemDisk>,
+    call: u32,
+    image: Option<Image>,
+) -> Option<(ApplyFault, ApplyFault)>
+    requires { 0 < call }
+{
+    let armed = match image {
+        Some(image) => journal.arm(call, image),
+        None => journal.fail(call),
+    };
+    if !armed {
+        return None;
+    }
+    Some((
+        journal.apply(alloc, 7).err()?,
+        journal.apply(alloc, 8).err()?,
+    ))
+}
+
+/// How many bytes, after how many commands, a journal loads to behind a crash.
+fn reloaded(alloc: Global, journal: Journalled<Tape, MemDisk>) -> Option<(usize, u64)> {
+    let (mut disk_a, disk_b) = journal.into_disks();
+    let crashed = disk_a.crash();
+    match Journalled::load(alloc, empty_tape(), disk_a, disk_b) {
+        Ok(journal) if crashed => Some(counts(&journal)),
+        _ => None,
+    }
+}
+
 #[test]
 fn each_call_of_a_commit_stops_or_fails(rt: HostRuntime) -> Result<(), Fail> {
     let alloc = rt.alloc();
@@ -123,35 +196,17 @@ fn each_call_of_a_commit_stops_or_fails(rt: HostRuntime) -> Result<(), Fail> {
         (4, Some(Image::Without), 0),
         (4, None, 1),
     ];
+    let faults = Some((ApplyFault::DiskFault { count: 1 }, ApplyFault::Shut));
     for (row, (call, image, want)) in rows.iter().enumerate() {
         assert!(rt; *call > 0, "in row {row}");
         let mut journal = journal(alloc)?;
-        let armed = match image {
-            Some(image) => journal.arm(*call, *image),
-            None => journal.fail(*call),
-        };
-        assert!(rt; armed, "in row {row}");
-        let fault = journal.apply(alloc, 7).err();
         assert_eq!(rt;
-            fault,
-            Some(ApplyFault::DiskFault { count: 1 }),
+            refusals(alloc, &mut journal, *call, *image),
+            faults,
             "in row {row}"
         );
-        assert_eq!(rt;
-            journal.apply(alloc, 8).err(),
-            Some(ApplyFault::Shut),
-            "in row {row}"
-        );
-        let (mut disk_a, disk_b) = journal.into_disks();
-        assert!(rt; disk_a.crash(), "in row {row}");
-        let loaded = Journalled::load(alloc, empty_tape(), disk_a, disk_b);
-        let loaded = loaded.map_err(|fault| fault.why)?;
-        assert_eq!(rt;
-            loaded.state().bytes.as_slice().len(),
-            *want,
-            "in row {row}"
-        );
-        assert_eq!(rt; loaded.serial(), *want as u64, "in row {row}");
+        let found = reloaded(alloc, journal);
+        assert_eq!(rt; found, Some((*want, *want as u64)), "in row {row}");
     }
     Ok(())
 }

@@ -4,7 +4,7 @@ use Rattle.frs_disk.specs.Alarms.{Alarm}
 use Rattle.frs_journal.specs.Loads.{Loads, LoadsStep}
 use Rattle.frs_journal.specs.Slots.{slot_a, slot_b}
 use Rattle.frs_journal.proofs.Commits.{kept_leaves, now_leaves_map}
-use Rattle.frs_journal.proofs.Moving.{commit_fault, moments_from, no_device, refused_crash, refused_fault, slot_a_same, slot_b_same, steps_from, stops_from}
+use Rattle.frs_journal.proofs.Moving.{armed_from, commit_fault, moments_from, no_device, refused_crash, refused_fault, slot_a_same, slot_b_same, steps_from, stops_from}
 use Rattle.frs_journal.proofs.journalled.Journalled.apply.Goals as goal
 
 pub returns-in-Err-clause-crash : goal.returns-in-Err-clause-crash
@@ -75,3 +75,16 @@ returns-in-Ok-clause-stops g c =
     e.machine e.same.serial
     (slot_a_same f old.in_b mid.in_b old.current mid.current old.other mid.other e.same.in_b e.states e.same.other)
     (slot_b_same f old.in_b mid.in_b old.current mid.current old.other mid.other e.same.in_b e.states e.same.other) e.alarm h)
+
+pub returns-in-Err-clause-word : goal.returns-in-Err-clause-word
+returns-in-Err-clause-word g c = λ device. absurd (no_device c.in-Err.fault _ _ c.in-Err.ensures.refused device)
+
+pub returns-in-Ok-clause-word : goal.returns-in-Ok-clause-word
+returns-in-Ok-clause-word g c =
+    let st = g.M.Machine.state in
+    let old = c.args.self.now in
+    let mid = c.prepare.new.self in
+    let e = c.prepare.ensures in
+    MatchResult-weaker c.commit.result c.commit.ensures.word (λ _ _. tt)
+    (λ _ h device. armed_from g.M.Machine.law g.D.FrsDisk.states c.commit.new.self (g.D.FrsDisk.alarm old.current) (g.D.FrsDisk.alarm mid.current) (st old.machine) (st mid.machine) old.serial mid.serial
+    c.args.cmd (g.M.Machine.command c.in-Ok.prepared.ready) e.alarm e.machine e.same.serial c.in-Ok.ensures.ready.0 h)

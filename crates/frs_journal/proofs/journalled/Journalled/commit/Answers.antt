@@ -4,7 +4,9 @@ use Rattle.frs_journal.specs.Loads.{Loads, LoadsStep}
 use Rattle.frs_journal.specs.Rests.{Kept}
 use Rattle.frs_journal.specs.Slots.{framed, IsShort}
 use Rattle.frs_journal.proofs.Commits.{always_any, commit_crash, kept_leaves, kept_more, once_now}
+use Rattle.frs_journal.specs.Gates.{lands}
 use Rattle.frs_journal.proofs.Fronts.{length_framed}
+use Rattle.frs_journal.proofs.Landing.{found_loads}
 use Rattle.frs_journal.proofs.Moving.{commit_stops}
 use Rattle.frs_journal.proofs.journalled.Journalled.commit.Goals as goal
 
@@ -98,3 +100,23 @@ returns-clause-could g c =
     let s = c.self.inside in
     let fits = rw (← c.self.view_is, ← c.prepared.view_is) at c.requires.fits in
     rw (← c.self.view_is, ← c.prepared.view_is) (g.met.M.Machine.leads c.prepared.inside.ready s.machine fits)
+
+pub returns-in_default-clause-word : goal.returns-in_default-clause-word
+returns-in_default-clause-word g c =
+    let s = c.self.inside in
+    let f = g.D.FrsDisk.states in
+    let law = g.M.Machine.law in
+    let x = g.M.Machine.command c.prepared.inside.ready in
+    let open_is : s.shut ≡ false = search rules in
+    let fits = rw (← c.self.view_is, ← c.prepared.view_is) at c.requires.fits in
+    let led = g.met.M.Machine.leads c.prepared.inside.ready s.machine fits in
+    rw (← c.self.view_is, ← c.prepared.view_is) (λ quiet exact.
+    let w = c.in_default.ensures.word quiet exact in (
+      w.0,
+      w.1,
+      w.2,
+      found_loads law (g.M.Machine.state s.machine) led.0 x s.in_b s.end s.serial c.as_slice.result.now (lands w.0.before w.0.image)
+          (f s.current) (f c.append_record.new.disk) (f s.other) (c.self.invariant.2 open_is) c.prepared.invariant.0
+          (short_of (law.code x) c.prepared.inside.body.items s.end c.prepared.invariant.1 (search rules))
+          led.1 (g.met.M.Machine.lawful.keeps_origin (g.M.Machine.state s.machine) x led.0 led.1) (c.as_slice.ensures.value ∙ c.prepared.invariant.1) w.3,
+    ))

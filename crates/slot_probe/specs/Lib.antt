@@ -1,0 +1,3 @@
+pub mod Piles
+pub mod Found
+pub mod Rows
