@@ -373,9 +373,9 @@ quiet_members_go_on w h d full quiet = elim (least Is (decided R l d m staged co
     all : ((s : InstallStep) → Is s → ⊥) → consumed ≡ m.next_usn
     all none = elim (true_decided (ltb consumed m.next_usn)) [
       | inl e ↦ (
-        let low : consumed < m.next_usn = grind (arith, nat_tests, e) in
-        let (r, at) = full consumed (omega arith) low in
-        absurd (none (InstallStep.Skip consumed) (r, refl, at)))
+          let low : consumed < m.next_usn = grind (arith, nat_tests, e) in
+          let (r, at) = full consumed (omega arith) low in
+          absurd (none (InstallStep.Skip consumed) (r, refl, at)))
       | inr n ↦ (let most = numbers.consumed_is in grind (arith, nat_tests, n, most))
     ]
 

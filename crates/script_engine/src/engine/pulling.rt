@@ -61,7 +61,11 @@ fn by_version(a: &Update, b: &Update) -> Ordering
 }
 
 /// Those whose versions a vector doesn't cover.
-fn uncovered(alloc: Global, vector: &GrowingVector, records: &[Update]) -> Result<Vec<Update>, AllocError>
+fn uncovered(
+    alloc: Global,
+    vector: &GrowingVector,
+    records: &[Update],
+) -> Result<Vec<Update>, AllocError>
     ensures { IfOk result (λ page. page.items ≡ uncovered vector.now.items records.now) }
 {
     let mut page = Vec::new(alloc);
@@ -74,7 +78,11 @@ fn uncovered(alloc: Global, vector: &GrowingVector, records: &[Update]) -> Resul
 }
 
 /// Those whose versions a vector doesn't cover, in order of their versions.
-fn page_of(alloc: Global, vector: &GrowingVector, records: &[Update]) -> Result<Vec<Update>, AllocError>
+fn page_of(
+    alloc: Global,
+    vector: &GrowingVector,
+    records: &[Update],
+) -> Result<Vec<Update>, AllocError>
     ensures { IfOk result (λ page. IsPermutation (uncovered vector.now.items records.now) page.items × IsSortedBy version_lt page.items) }
 {
     let mut page = uncovered(alloc, vector, records)?;
