@@ -1,8 +1,9 @@
 #!/usr/bin/env python3
 """Runs random scripts through the model and through dfsr, and stops at the first that differs.
 
-Usage: check/compare.py [COUNT [FIRST]], COUNT scripts (2000) from the seed FIRST (0) on. The program is
-built first where it has to be. A script that differs is kept, and its name is printed.
+Usage: check/compare.py [--full] [COUNT [FIRST]], COUNT scripts (2000) from the seed FIRST (0) on; with
+--full ones whose vectors come to have as many intervals as they may, of which each takes a while (5). The
+program is built first where it has to be. A script that differs is kept, and its name is printed.
 """
 import pathlib
 import random
@@ -10,7 +11,7 @@ import subprocess
 import sys
 import tempfile
 
-from model import run
+from model import MOST_INTERVALS, run
 
 TOP = pathlib.Path(__file__).resolve().parent.parent
 PROGRAM = TOP / "crates/dfsr/out/dfsr"
@@ -78,9 +79,30 @@ class Writer:
         return script + b"\xff" if self.random.random() < 0.01 else script
 
 
-def differs(seed):
+class FullWriter:
+    """Writes a script of directories and files in turn: who pulls them covers the directories first, each
+    with a gap behind it, about as many as a vector may have intervals."""
+
+    def __init__(self, seed):
+        self.random = random.Random(seed)
+
+    def script(self):
+        rows = ["member a primary", "member b plain"]
+        for number in range(MOST_INTERVALS + self.random.randint(-3, 12)):
+            rows.append(f"mkdir a d{number}")
+            if self.random.random() > 0.00003:
+                rows.append(f"put a f{number} {number}")
+        rows += ["change a last 100", "count a", "pull b a", "count b"]
+        for _ in range(self.random.randint(1, 12)):
+            name = self.random.choice("aab")
+            rows.append(self.random.choice([f"change b x{self.random.randint(0, 3)} 7", f"consume {name} 9", "pull b a", f"mkdir {name} more", "pull a b", f"put {name} f9 new"]))
+            rows.append("count b")
+        return "\n".join(rows).encode()
+
+
+def differs(seed, writer):
     """Whether the model and the program differ; the script is kept then."""
-    script = Writer(seed).script()
+    script = writer(seed).script()
     status, text = run(script)
     ended = subprocess.run([PROGRAM, "script"], input=script, capture_output=True)
     if (ended.returncode, ended.stdout) == (status, text.encode()):
@@ -92,9 +114,12 @@ def differs(seed):
 
 
 def main():
-    count, first = (int(word) for word in (sys.argv[1:] + ["2000", "0"][len(sys.argv) - 1 :]))
+    words = sys.argv[1:]
+    writer, usual = (FullWriter, "5") if words[:1] == ["--full"] else (Writer, "2000")
+    words = words[1:] if writer is FullWriter else words
+    count, first = (int(word) for word in (words + [usual, "0"][len(words) :]))
     subprocess.run([TOP / "dfsr", "--version"], check=True, stdout=subprocess.DEVNULL)
-    if any(differs(seed) for seed in range(first, first + count)):
+    if any(differs(seed, writer) for seed in range(first, first + count)):
         sys.exit(1)
     print(f"{count} scripts, from seed {first} on: the program writes what the model writes")
 

@@ -8,6 +8,7 @@ import struct
 
 ROOT = ("root",)
 LARGEST_SCRIPT, MOST_MEMBERS, LARGEST_FILE = 16_777_216, 8, 1_048_576
+MOST_INTERVALS = 65_536
 
 MEMBER = "[a-z]{1,8}"
 COMPONENT = r"[!-.0-\[\]-~]{1,255}"
@@ -68,12 +69,10 @@ class Volume:
 
     def __init__(self):
         self.objects, self.journal, self.fid, self.usn = {}, {}, 1, 9
+        self.children = {}
 
     def child(self, parent, name):
-        for o in self.objects.values():
-            if o.parent == parent and fold(o.name) == fold(name):
-                return o
-        return None
+        return self.children.get((parent, fold(name)))
 
     def directory(self, parts):
         at = 0
@@ -111,7 +110,7 @@ class Volume:
 
     def new(self, parent, name, kind, data):
         o = Obj(self.fid, parent, name, kind, self.usn, data)
-        self.objects[o.fid] = o
+        self.objects[o.fid] = self.children[parent, fold(name)] = o
         self.fid += 1
         return self.log(o, "new")
 
@@ -137,7 +136,9 @@ class Volume:
             raise Refuse("refused 9 loop")
         if there is not None and there is not o:
             raise Refuse("refused 8 taken")
+        del self.children[o.parent, fold(o.name)]
         o.parent, o.name = parent, name
+        self.children[parent, fold(name)] = o
         return self.log(o, "move")
 
     def remove(self, path):
@@ -146,7 +147,7 @@ class Volume:
             raise Refuse("refused 5 nopath")
         if any(x.parent == o.fid for x in self.objects.values()):
             raise Refuse("refused 7 notempty")
-        del self.objects[o.fid]
+        del self.objects[o.fid], self.children[o.parent, fold(o.name)]
         return self.log(o, "remove")
 
     def path(self, o):
@@ -164,6 +165,21 @@ class Member:
         self.number, self.primary = number, primary
         self.volume, self.records, self.known = Volume(), {}, set()
         self.consumed, self.initial = 9, True
+        self.intervals = 0
+
+    def cover(self, versions):
+        """Covers these versions too, where the vector has few enough intervals then."""
+        new = {v for v in versions if v not in self.known}
+        self.known.update(new)
+        # (an interval begins where the version before it isn't covered)
+        intervals = self.intervals
+        for db, v in new:
+            intervals += (db, v - 1) not in self.known
+            intervals -= (db, v + 1) in self.known and (db, v + 1) not in new
+        if intervals > MOST_INTERVALS:
+            self.known.difference_update(new)
+            raise Refuse(f"refused 20 vectorfull {intervals}")
+        self.intervals = intervals
 
     def consume(self, moment):
         """What the next journal record makes: `update` or `skip` and its USN, or None where there is none."""
@@ -188,8 +204,9 @@ class Member:
             made["clock"] = max(moment, held["clock"] + 1) if held else moment
             made["created"] = held["created"] if held else moment
             made["fence"] = max(base, held["fence"]) if held else base
+        self.cover([(self.number, n)])
+        if made:
             self.records[uid] = made
-        self.known.add((self.number, n))
         self.consumed += 1
         return ("update" if made else "skip", n)
 
@@ -230,8 +247,8 @@ class World:
         return held is None or key(u) > key(held)
 
     def take(self, m, u):
+        m.cover([u["gvsn"]])
         m.records[u["uid"]] = dict(u)
-        m.known.add(u["gvsn"])
 
     def pull(self, m, n):
         sent = set(n.known)
@@ -252,7 +269,7 @@ class World:
                 raise Refuse(f"refused 12 notyet {usn}")
             self.take(m, n.records[u["uid"]])
             count += 1
-        m.known |= sent
+        m.cover(sent)
         m.initial = False
         return count
 
