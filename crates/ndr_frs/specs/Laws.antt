@@ -16,6 +16,7 @@ pub record RequestsAreExact : Type 0 where
   pub written : (q : FrsRequest) → IsRequest q → SpellsRequest (request_number q) q (request_appends q [])
   pub back : (q : FrsRequest) → IsRequest q → request_of (request_number q) (request_appends q []) ≡ Ok q
 
+-- the same of replies
 pub record RepliesAreExact : Type 0 where
   pub found : (opnum : ℕ) (stub : List ℕ) (q : FrsReply) → AreBytes stub → reply_of opnum stub ≡ Ok q → SpellsReply opnum q stub
   pub only : (opnum : ℕ) (stub : List ℕ) (q : FrsReply) → SpellsReply opnum q stub → reply_of opnum stub ≡ Ok q

@@ -23,7 +23,7 @@ abbrev pub status_item : Item ℕ
 status_item = checked 4 (λ n. n == 0 || n == 2 || n == 3) (number w32)
 
 -- return code
-abbrev pub check_item : Item (ℕ)
+abbrev pub check_item : Item ℕ
 check_item = number w32
 
 -- version, flags, return code
@@ -31,7 +31,7 @@ abbrev pub connection_item : Item (ℕ × (ℕ × ℕ))
 connection_item = number w32 ⨾ (number w32 ⨾ number w32)
 
 -- return code
-abbrev pub session_item : Item (ℕ)
+abbrev pub session_item : Item ℕ
 session_item = number w32
 
 -- maximum and updates, count, status, GVSN of the last update, return code
@@ -39,7 +39,7 @@ unfoldable pub page_item : Item ((ℕ × List Update) × (ℕ × (ℕ × (ℕ ×
 page_item = updates_item ⨾ (number w32 ⨾ (status_item ⨾ (guid_item ⨾ (number w64 ⨾ number w32))))
 
 -- return code
-abbrev pub vector_item : Item (ℕ)
+abbrev pub vector_item : Item ℕ
 vector_item = number w32
 
 -- sequence, status, generation, count, pointer to the vector, return code
@@ -58,20 +58,21 @@ close_item = handle_item ⨾ number w32
 unfoldable pub file_item : Item (Update × (ContextHandle × ((ℕ × List ℕ) × (ℕ × (ℕ × (ℕ × ℕ))))))
 file_item = update_item ⨾ (handle_item ⨾ (bytes_item ⨾ (number w32 ⨾ (number w32 ⨾ (number w64 ⨾ number w32)))))
 
--- the value that the fields make
-abbrev pub as_check : (ℕ) → FrsReply
+-- ---- the value that the fields of each make
+
+abbrev pub as_check : ℕ → FrsReply
 as_check t = forms.CheckConnectivity t
 
 abbrev pub as_connection : (ℕ × (ℕ × ℕ)) → FrsReply
 as_connection t = forms.EstablishConnection t.0 t.1.0 t.1.1
 
-abbrev pub as_session : (ℕ) → FrsReply
+abbrev pub as_session : ℕ → FrsReply
 as_session t = forms.EstablishSession t
 
 abbrev pub as_page : ((ℕ × List Update) × (ℕ × (ℕ × (ℕ × (ℕ × ℕ))))) → FrsReply
 as_page t = forms.RequestUpdates t.0.0 t.0.1 t.1.0 t.1.1.0 t.1.1.1.0 t.1.1.1.1.0 t.1.1.1.1.1
 
-abbrev pub as_vector : (ℕ) → FrsReply
+abbrev pub as_vector : ℕ → FrsReply
 as_vector t = forms.RequestVersionVector t
 
 abbrev pub as_poll : (ℕ × (ℕ × (ℕ × (ℕ × (Option (List Interval) × ℕ))))) → FrsReply

@@ -41,7 +41,7 @@ abbrev pub vector_item : Item (ℕ × (ℕ × (ℕ × (ℕ × (ℕ × ℕ)))))
 vector_item = number w32 ⨾ (guid_item ⨾ (guid_item ⨾ (below_item 1 ⨾ (below_item 2 ⨾ number w64))))
 
 -- connection
-abbrev pub poll_item : Item (ℕ)
+abbrev pub poll_item : Item ℕ
 poll_item = guid_item
 
 -- handle, size of the buffer
@@ -49,14 +49,15 @@ abbrev pub data_item : Item (ContextHandle × ℕ)
 data_item = handle_item ⨾ number w32
 
 -- handle
-abbrev pub close_item : Item (ContextHandle)
+abbrev pub close_item : Item ContextHandle
 close_item = handle_item
 
 -- connection, update, whether differences are desired, policy, size of the buffer
 abbrev pub file_item : Item (ℕ × (Update × (ℕ × (ℕ × ℕ))))
 file_item = guid_item ⨾ (update_item ⨾ (number w32 ⨾ (number w32 ⨾ number w32)))
 
--- the value that the fields make
+-- ---- the value that the fields of each make
+
 abbrev pub as_check : (ℕ × ℕ) → FrsRequest
 as_check t = forms.CheckConnectivity t.0 t.1
 
@@ -72,13 +73,13 @@ as_page t = forms.RequestUpdates t.0 t.1.0 t.1.1.0 t.1.1.1.0 t.1.1.1.1.0 t.1.1.1
 abbrev pub as_vector : (ℕ × (ℕ × (ℕ × (ℕ × (ℕ × ℕ))))) → FrsRequest
 as_vector t = forms.RequestVersionVector t.0 t.1.0 t.1.1.0 t.1.1.1.0 t.1.1.1.1.0 t.1.1.1.1.1
 
-abbrev pub as_poll : (ℕ) → FrsRequest
+abbrev pub as_poll : ℕ → FrsRequest
 as_poll t = forms.AsyncPoll t
 
 abbrev pub as_data : (ContextHandle × ℕ) → FrsRequest
 as_data t = forms.RawGetFileData t.0 t.1
 
-abbrev pub as_close : (ContextHandle) → FrsRequest
+abbrev pub as_close : ContextHandle → FrsRequest
 as_close t = forms.RdcClose t
 
 abbrev pub as_file : (ℕ × (Update × (ℕ × (ℕ × ℕ)))) → FrsRequest

@@ -20,6 +20,7 @@ abbrev pub number_of : Bool → ℕ
 number_of false = 0
 number_of true = 1
 
+-- a flag
 abbrev pub flag_item : Item Bool
 flag_item = seen (λ n. n == 1) number_of (checked 4 (λ n. nat_lt n 2) (number w32))
 
@@ -27,12 +28,15 @@ flag_item = seen (λ n. n == 1) number_of (checked 4 (λ n. nat_lt n 2) (number 
 abbrev pub below_item : ℕ → Item ℕ
 below_item limit = checked 4 (λ n. nat_lt n limit) (number w32)
 
+-- the 20 bytes of a SHA-1 sum
 abbrev pub sum_item : Item Sum
 sum_item = seen (λ bytes. record { 0 = bytes }) (λ s. s.0) (chunk 1 20)
 
+-- a file, by the database and the version with which it was made
 abbrev pub uid_item : Item Uid
 uid_item = seen (λ t. record { db = t.0; version = t.1 }) (λ u. (u.db, u.version)) (guid_item ⨾ number w64)
 
+-- a version: the database that made it, and its number there
 abbrev pub gvsn_item : Item Gvsn
 gvsn_item = seen (λ t. record { db = t.0; version = t.1 }) (λ g. (g.db, g.version)) (guid_item ⨾ number w64)
 
@@ -79,19 +83,23 @@ bytes_item = seen (λ t. (t.0, t.1.1)) (λ v. (v.0, (length v.1, v.1))) (followe
 
 -- ---- values whose numbers have room
 
+-- of an interval
 pub record IsInterval (i : Interval) : Type 0 where
   pub db : i.db < 2 ^ 128
   pub low : i.low < 2 ^ 64
   pub high : i.high < 2 ^ 64
 
+-- of a UID
 pub record IsUid (u : Uid) : Type 0 where
   pub db : u.db < 2 ^ 128
   pub version : u.version < 2 ^ 64
 
+-- of a GVSN
 pub record IsGvsn (g : Gvsn) : Type 0 where
   pub db : g.db < 2 ^ 128
   pub version : g.version < 2 ^ 64
 
+-- of an update, whose name is one
 pub record IsUpdate (u : Update) : Type 0 where
   pub attributes : u.attributes < 2 ^ 32
   pub fence : u.fence < 2 ^ 64
