@@ -218,6 +218,172 @@ def feed_answer(pieces):
     return "; ".join(parts)
 
 
+# ---- stubs: each field is a kind, and what more it takes
+
+NAMES = {0, 0x2F, 0x5C}
+UPDATE = ["flag", "flag", "u32", "u64", "u64", "u64", "guid", ("raw", 20), ("raw", 16)] + ["guid", "u64"] * 3 + ["name", "u32"]
+REQUESTS = {
+    0: ["guid", "guid"],
+    1: ["guid", "guid", "u32", "u32"],
+    2: ["guid", "guid"],
+    3: ["guid", "guid", "u32", "u32", ("below", 3), "counted"],
+    4: ["u32", "guid", "guid", ("below", 1), ("below", 2), "u64"],
+    5: ["guid"],
+    8: ["handle", "u32"],
+    12: ["handle"],
+    13: ["guid", "update", "u32", "u32", "u32"],
+}
+REPLIES = {
+    0: ["u32"],
+    1: ["u32", "u32", "u32"],
+    2: ["u32"],
+    3: ["updates", "u32", ("among", (0, 2, 3)), "guid", "u64", "u32"],
+    4: ["u32"],
+    5: ["u32", ("below", 2), "u64", "u32", "vector", "u32"],
+    8: ["bytes", "u32", ("below", 2), "u32"],
+    12: ["handle", "u32"],
+    13: ["update", "handle", "bytes", "u32", "u32", "u64", "u32"],
+}
+
+
+def place(r, size):
+    return r.at + -r.at % size
+
+
+def read_among(r, values):
+    at = place(r, 4)
+    value = r.number(4)
+    if value not in values:
+        raise Bad("Value", at)
+    return value
+
+
+def read_count(r, limit):
+    at = place(r, 4)
+    count = r.number(4)
+    if count > limit:
+        raise Bad("Count", at)
+    return count
+
+
+def read_varying(r, limit):
+    """The count behind a maximum, and behind an offset that is 0."""
+    maximum = read_count(r, limit)
+    at = place(r, 4)
+    offset, count = struct.unpack("<II", r.take(8, 4))
+    if offset or count > maximum:
+        raise Bad("Count", at)
+    return maximum, count
+
+
+def read_name(r):
+    at = place(r, 4)
+    offset, count = struct.unpack("<II", r.take(8, 4))
+    if 2 * count > len(r.data) - r.at:
+        raise Bad("Short", at)
+    units = struct.unpack(f"<{count}H", r.take(2 * count))
+    if offset or count > 256:
+        raise Bad("Count", at)
+    if 0 not in units or units.index(0) != count - 1:
+        raise Bad("Terminator", at)
+    if count < 2 or NAMES & set(units[:-1]):
+        raise Bad("Value", at)
+    return units[:-1]
+
+
+def read_interval(r):
+    r.take(0, 8)
+    return r.guid(), r.number(8), r.number(8)
+
+
+def read_field(r, field):
+    kind, more = field if isinstance(field, tuple) else (field, None)
+    if kind in ("u32", "u64"):
+        return r.number(4 if kind == "u32" else 8)
+    if kind == "guid":
+        return r.guid()
+    if kind == "handle":
+        return r.take(20, 4)
+    if kind == "raw":
+        return r.take(more)
+    if kind in ("flag", "below", "among"):
+        return read_among(r, more if kind == "among" else range(2 if kind == "flag" else more))
+    if kind == "name":
+        return read_name(r)
+    if kind == "update":
+        r.take(0, 8)
+        return [read_field(r, each) for each in UPDATE]
+    if kind == "counted":
+        said = r.number(4)
+        at = place(r, 4)
+        if read_count(r, 131_072) != said:
+            raise Bad("Value", at)
+        return [read_interval(r) for _ in range(said)]
+    if kind == "vector":
+        return [read_interval(r) for _ in range(read_count(r, 65_536))] if r.number(4) else None
+    maximum, count = read_varying(r, 256 if kind == "updates" else 32_768)
+    return maximum, (r.take(count) if kind == "bytes" else [read_field(r, "update") for _ in range(count)])
+
+
+def put_interval(w, value):
+    w.put(b"", 8)
+    w.put(value[0], 4)
+    w.number(value[1], 8)
+    w.number(value[2], 8)
+
+
+def put_field(w, field, value):
+    kind = field[0] if isinstance(field, tuple) else field
+    if kind in ("guid", "handle"):
+        w.put(value, 4)
+    elif kind == "raw":
+        w.put(value)
+    elif kind == "u64":
+        w.number(value, 8)
+    elif kind in ("u32", "flag", "below", "among"):
+        w.number(value, 4)
+    elif kind == "name":
+        w.put(struct.pack(f"<II{len(value)}HH", 0, len(value) + 1, *value, 0), 4)
+    elif kind == "update":
+        w.put(b"", 8)
+        for each, part in zip(UPDATE, value):
+            put_field(w, each, part)
+    elif kind == "counted" or (kind == "vector" and value is not None):
+        w.number(len(value) if kind == "counted" else 0x20000, 4)
+        w.number(len(value), 4)
+        for each in value:
+            put_interval(w, each)
+    elif kind == "vector":
+        w.number(0, 4)
+    else:
+        w.put(struct.pack("<III", value[0], 0, len(value[1])), 4)
+        if kind == "bytes":
+            w.put(value[1])
+        else:
+            for each in value[1]:
+                put_field(w, "update", each)
+
+
+def write_stub(fields, values):
+    w = Writer()
+    for field, value in zip(fields, values):
+        put_field(w, field, value)
+    return bytes(w.data)
+
+
+def stub_answer(table, opnum, data):
+    if opnum not in table:
+        return "bad Opnum"
+    r = Reader(data)
+    try:
+        values = [read_field(r, field) for field in table[opnum]]
+        if r.at < len(data):
+            raise Bad("Rest", r.at)
+    except Bad as bad:
+        return bad.text()
+    return f"stub {digits(write_stub(table[opnum], values))}"
+
+
 # ---- marshalled forms
 
 FIXED = [(0, b"FRSM"), (4, struct.pack("<I", 1)), (8, struct.pack("<I", 1)), (12, bytes(4)), (16, struct.pack("<Q", 4)), (24, None), (28, struct.pack("<I", 2)), (32, bytes(4)), (36, None)]
@@ -295,6 +461,45 @@ class Maker:
             body = (0, context, stub) if response else (0, context, opnum, stub)
             parts.append(write_pdu(kind, call, flags, body))
         return parts
+
+    def value(self, field):
+        """A value of a stub's field."""
+        kind, more = field if isinstance(field, tuple) else (field, None)
+        pick = self.random
+        if kind in ("u32", "u64"):
+            return self.number(4 if kind == "u32" else 8)
+        if kind in ("guid", "handle", "raw"):
+            return pick.randbytes({"guid": 16, "handle": 20}.get(kind, more))
+        if kind in ("flag", "below", "among"):
+            return pick.choice(more) if kind == "among" else pick.randrange(2 if kind == "flag" else more)
+        if kind == "name":
+            return [pick.choice([0x41, 0x2E, 1, 0xD800, 0xFFFF]) for _ in range(pick.choice([1, 1, 2, 5, 255]))]
+        if kind == "update":
+            return [self.value(each) for each in UPDATE]
+        if kind == "vector" and pick.random() < 0.3:
+            return None
+        if kind in ("counted", "vector"):
+            return [(pick.randbytes(16), self.number(8), self.number(8)) for _ in range(pick.choice([0, 1, 2]))]
+        count = pick.choice([0, 1, 2])
+        maximum = pick.choice([count, count + 1, 256 if kind == "updates" else 32_768])
+        return maximum, (pick.randbytes(count * 3 % 5 % (maximum + 1)) if kind == "bytes" else [self.value("update") for _ in range(count)])
+
+    def stub(self, table, opnum):
+        return write_stub(table[opnum], [self.value(field) for field in table[opnum]])
+
+    def stubs(self):
+        """Stubs of each method, right ones and wrong ones."""
+        for word, table in (("request", REQUESTS), ("reply", REPLIES)):
+            for opnum in table:
+                good = self.stub(table, opnum)
+                for data in [good, *self.wrong(good)]:
+                    yield f"{word} {opnum} {digits(data)}", stub_answer(table, opnum, data)
+                for at in range(0, len(good), 4):
+                    for count in (0, 1, 2, 255, 256, 257, 32_768, 32_769, 65_536, 65_537, 131_072, 131_073, 0xFFFFFFFF):
+                        data = good[:at] + struct.pack("<I", count) + good[at + 4 :]
+                        yield f"{word} {opnum} {digits(data)}", stub_answer(table, opnum, data)
+            for opnum in (6, 7, 9, 10, 11, 14, 15, 16, 255, 256, 65_535):
+                yield f"{word} {opnum} {digits(self.bytes(40))}", "bad Opnum"
 
     # ---- wrong ones
 
@@ -380,6 +585,7 @@ class Maker:
             for at in range(len(short) + 1):
                 pieces = [short[:at], short[at:]]
                 yield "feed " + " ".join(map(digits, pieces)), feed_answer(pieces)
+            yield from self.stubs()
             good = write_form(pick.choice([0x20, 0, 0x10, 0x30, self.number(4)]), self.bytes(20))
             for data in [good, *self.wrong(good)]:
                 yield f"form {digits(data)}", form_answer(data)
@@ -409,7 +615,7 @@ def expect(text, status, written, why):
 
 
 def bad_rows():
-    rows = ["", "pdu", "pdu ", "pdu  -", "pdu 0", "pdu 0g", "pdu -0", "pdu --", "pdu - ", "pdu -\r", " pdu -", "Pdu -", "pdu\t-", "pdu 00 00", "form", "form - -", "feed", "feed ", "feed - ", "feed  -", "feed 0", "feed 00  00", "feed 00 0", "frob -", "pdus -", "\xe9", "pdu \xe9\xe9", "#", "# pdu"]
+    rows = ["", "pdu", "pdu ", "pdu  -", "pdu 0", "pdu 0g", "pdu -0", "pdu --", "pdu - ", "pdu -\r", " pdu -", "Pdu -", "pdu\t-", "pdu 00 00", "form", "form - -", "feed", "feed ", "feed - ", "feed  -", "feed 0", "feed 00  00", "feed 00 0", "frob -", "pdus -", "request -", "request 0", "request  -", "request 00 -", "request 01 -", "request +1 -", "request -1 -", "request 65536 -", "request 99999999999999999999 -", "request 0x1 -", "request 1 2 -", "request 0 0", "request 0 - -", "reply -", "reply 65536 -", "reply 3  -", "\xe9", "pdu \xe9\xe9", "#", "# pdu"]
     for row in rows:
         text = row.encode("latin-1") + b"\n"
         expect(text, 3, b"bad line 1\n", f"row {row!r}")

@@ -1,5 +1,5 @@
 -- What a sink took of the answers of some first rows.
-use Rattle.std.proofs.Common.{◌≡◌, ◌∙◌, ℕ, ◌+◌, ◌≤◌, List, [], ◌∷◌, ◌++◌, Option, length, drop, refl, sym, ap, subst, append_assoc, append-nil, arith, length-append, inl, inr}
+use Rattle.std.proofs.Common.{◌≡◌, ◌∙◌, ℕ, ◌+◌, ◌<◌, ◌≤◌, List, [], ◌∷◌, ◌++◌, Option, length, drop, refl, sym, ap, subst, append_assoc, append-nil, arith, length-append, inl, inr}
 use Rattle.std.specs.Prelude.{string_bytes}
 use Rattle.std.proofs.lemmas.List.{length_push}
 use Rattle.frs_io.specs.Told.{HandsOn, Takes, TakesSome}
@@ -59,8 +59,8 @@ one_row text rest number old now pending row said size s cut answered = record {
 }
 
 pub next_row : (text rest : List ℕ) (number : ℕ) (old now : Option (List ℕ)) (pending grown said : List ℕ) (size : ℕ) → SoFar text rest number old now pending
-    → (row : List ℕ) × (rest ≡ (row ++ 10 ∷ []) ++ drop size rest) × Answered row said → grown ≡ pending ++ said → SoFar text (drop size rest) (number + 1) old now grown
-next_row text rest number old now pending grown said size s (row, cut, answered) more =
+    → (row : List ℕ) × (size ≡ length row + 1) × (rest ≡ (row ++ 10 ∷ []) ++ drop size rest) × Answered row said → grown ≡ pending ++ said → SoFar text (drop size rest) (number + 1) old now grown
+next_row text rest number old now pending grown said size s (row, size_is, cut, answered) more =
     subst (SoFar text (drop size rest) (number + 1) old now) (sym more) (one_row text rest number old now pending row said size s cut answered)
 
 -- some of what was pending was written
@@ -121,3 +121,9 @@ bad_some text rest number old now new pending grown s more some bad =
       subst (TakesSome old new) (sym (ap (λ t. t ++ bad_line (number + 1)) s.split ∙ append_assoc s.front pending (bad_line (number + 1))))
       (Takes-TakesSome old now new s.front (pending ++ bad_line (number + 1)) s.takes (subst (TakesSome now new) more some)),
     )
+
+-- a row has a line feed at least, and its bytes are there
+pub row_there : (rest said : List ℕ) (size : ℕ) → (row : List ℕ) × (size ≡ length row + 1) × (rest ≡ (row ++ 10 ∷ []) ++ drop size rest) × Answered row said → (size ≤ length rest) × (length (drop size rest) < length rest)
+row_there rest said size (row, size_is, cut, answered) =
+    let long : length rest ≡ length row + 1 + length (drop size rest) = ap length cut ∙ length-append (row ++ 10 ∷ []) (drop size rest) ∙ ap (λ n. n + length (drop size rest)) (length-append row (10 ∷ [])) in
+    (omega (arith, long, size_is), omega (arith, long))

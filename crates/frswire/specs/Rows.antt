@@ -1,5 +1,5 @@
 -- What is read as rows, and what is written of them.
-use Rattle.std.specs.Prelude.{◌≡◌, ◌≢◌, ◌⊎◌, ◌<◌, ◌≤◌, ◌+◌, ◌++◌, ℕ, List, [], ◌∷◌, None, Option, All, codes, decimal, length}
+use Rattle.std.specs.Prelude.{◌≡◌, ◌≢◌, ◌⊎◌, ◌<◌, ◌≤◌, ◌+◌, ◌++◌, ℕ, List, [], ◌∷◌, None, Option, Some, All, codes, decimal, length}
 use Rattle.frs_io.specs.Told.{Takes, TakesSome}
 use Rattle.wire_rows.specs.Reading.{row_in}
 use Rattle.wire_rows.specs.Answering.{Answers}

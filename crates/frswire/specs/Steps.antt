@@ -25,7 +25,7 @@ IsAt founds.Long row = 16777216 < length row
 
 -- a row that was answered, with how many bytes it has; or the end of the bytes, a row that asks nothing, or one that is too long
 abbrev pub IsNext : Found → List ℕ → Type 0
-IsNext (founds.Row said size) bytes = (row : List ℕ) × (bytes ≡ (row ++ 10 ∷ []) ++ drop size bytes) × Answered row (string_bytes said)
+IsNext (founds.Row said size) bytes = (row : List ℕ) × (size ≡ length row + 1) × (bytes ≡ (row ++ 10 ∷ []) ++ drop size bytes) × Answered row (string_bytes said)
 IsNext founds.Nothing bytes = bytes ≡ []
 IsNext founds.Bad bytes = (row : List ℕ) × (behind : List ℕ) × (bytes ≡ row ++ behind) × IsBadRow row behind
 IsNext founds.Long bytes = (row : List ℕ) × (behind : List ℕ) × (bytes ≡ row ++ behind) × HasNoLineFeed row × (16777216 < length row)

@@ -1,5 +1,5 @@
 // Rows one after the other, from bytes to what is written of them.
-ghost use Rattle.std.specs.Prelude.{◌≡◌, ◌==◌, IfOk, OnErr, position, string_bytes};
+ghost use Rattle.std.specs.Prelude.{◌≡◌, ◌≤◌, ◌==◌, IfOk, OnErr, drop, length, position, string_bytes};
 ghost use Rattle.frs_io.specs.Causes.{HasWriteCause};
 ghost use Rattle.frswire.specs.Rows.{HasNoLineFeed, IsRow, WritesSome, bad_line};
 ghost use Rattle.frswire.specs.Steps.{Ends, IsAt, IsNext, Judges};
@@ -95,6 +95,14 @@ fn next(alloc: Global, bytes: &[u8]) -> Result<Found, AllocError>
     }
 }
 
+/// What stands behind so many bytes.
+fn behind(bytes: &[u8], size: usize) -> &[u8]
+    requires { size ≤ length bytes.now }
+    ensures { result.now ≡ drop size bytes.now }
+{
+    &bytes[size..]
+}
+
 /// The line that names the row of a number.
 fn bad_line(alloc: Global, number: u64) -> Result<String, AllocError>
     ensures { IfOk result (λ text. string_bytes text ≡ bad_line number) }
@@ -117,7 +125,7 @@ pub fn write_rows<K: Sink>(alloc: Global, bytes: &[u8], out: &mut K) -> Result<E
             Found::Row { said, size } => {
                 pending.push_str(said.as_str())?;
                 hand_on(alloc, out, &mut pending)?;
-                rest = &rest[size..];
+                rest = behind(rest, size);
             }
             Found::Bad => {
                 pending.push_str(bad_line(alloc, number)?.as_str())?;
