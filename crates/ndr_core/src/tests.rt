@@ -76,7 +76,7 @@ fn write_items(alloc: Global) -> Result<Vec<u8>, AllocError> {
     out.put_unique(true)?;
     out.put_string(&[0x78])?;
     out.put_reserved(2)?;
-    out.put_u8(0x13)?;
+    out.put_array(&[0x13])?;
     out.align(8)?;
     out.put_bytes(&[0x14, 0x15])?;
     Ok(out.into_vec())

@@ -139,6 +139,13 @@ impl Writer {
         self.bytes.extend_from_slice(bytes)
     }
 
+    /// An array of bytes, which needs no padding.
+    pub fn put_array(&mut self, bytes: &[u8]) -> Result<(), AllocError>
+        ensures { Writes (chunk 1 (length bytes.now)) bytes.now result self.old self.new }
+    {
+        self.put_chunk(1, bytes)
+    }
+
     /// So many reserved bytes, which are zeros.
     pub fn put_reserved(&mut self, count: usize) -> Result<(), AllocError>
         requires { count < 256 }

@@ -1,13 +1,13 @@
 -- The fragments of a call give it back.
-use Rattle.std.proofs.Common.{◌≡◌, ℕ, ◌+◌, ◌≤◌, ◌&&◌, ◌||◌, Bool, not, true, false, cond, eqb, List, [], ◌∷◌, ◌++◌, Option, Some, None, Result, Ok, Err, refl, sym, ap, subst, ◌∙◌, length, length-append, arith, le-ltb}
+use Rattle.std.proofs.Common.{◌≡◌, ℕ, ◌+◌, ◌≤◌, ◌&&◌, Bool, not, true, false, cond, eqb, List, [], ◌∷◌, ◌++◌, Option, Some, None, Result, Ok, Err, refl, sym, ap, ◌∙◌, length, length-append, arith, le-ltb}
 use Rattle.std.proofs.lemmas.Bool.{eqb-true}
 use Rattle.ndr_core.proofs.Steps.{both_of}
 use Rattle.rpc_frag.specs.declared.fragment.Fragment.{Fragment}
 use Rattle.rpc_frag.specs.declared.fragment.Whole.{Whole}
 use Rattle.rpc_frag.specs.declared.refusal.FragBad.{FragBad}
-use Rattle.rpc_frag.specs.declared.refusal.FragBad.TheVariants.{FragOrder, FragTooLong}
+use Rattle.rpc_frag.specs.declared.refusal.FragBad.TheVariants.{FragOrder}
 use Rattle.rpc_frag.specs.Fragments.{is_first, is_last, is_same}
-use Rattle.rpc_frag.specs.Assembling.{◌>>=◌, AreParts, FragmentsGiveTheirCall, answered, begin, extended, feed_of, joined, run, told, within}
+use Rattle.rpc_frag.specs.Assembling.{◌>>=◌, AreParts, FragmentsGiveTheirCall, answered, feed_of, joined, run, told, within}
 
 -- a call with these bytes of its stub
 abbrev so_far : Whole → List ℕ → Whole

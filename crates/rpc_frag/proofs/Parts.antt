@@ -1,11 +1,11 @@
 -- What a call is cut into are its fragments.
-use Rattle.std.proofs.Common.{◌≡◌, ℕ, ◌≤◌, ◌<◌, Bool, not, true, false, List, [], ◌∷◌, ◌++◌, Ok, refl, sym, ap, subst, ◌∙◌, append_assoc, drop, length, map, take, arith, eq-eqb, rules}
-use Rattle.std.proofs.lemmas.List.{append-nil, take-append-drop}
+use Rattle.std.proofs.Common.{◌≡◌, ℕ, ◌<◌, Bool, not, true, false, List, [], ◌∷◌, ◌++◌, refl, sym, ap, subst, ◌∙◌, append_assoc, drop, length, map, take, eq-eqb}
+use Rattle.std.proofs.lemmas.List.{take-append-drop}
 use Rattle.rpc_pdu.specs.declared.pdu.Pdu.{Pdu}
 use Rattle.rpc_frag.specs.declared.fragment.Fragment.{Fragment}
 use Rattle.rpc_frag.specs.declared.fragment.Whole.{Whole}
 use Rattle.rpc_frag.specs.Fragments.{IsCut, flags_of, fragment_of, is_first, is_last, is_same, part}
-use Rattle.rpc_frag.specs.Assembling.{AreParts, CutsGiveTheirCall, HasItsOpnum, run}
+use Rattle.rpc_frag.specs.Assembling.{AreParts, CutsGiveTheirCall, HasItsOpnum}
 use Rattle.rpc_frag.proofs.Gathering.{fragments_give_their_call}
 
 -- ---- the loop

@@ -1,0 +1,5 @@
+pub mod Shared
+pub mod Stubs
+pub mod Requests
+pub mod Replies
+pub mod Laws

@@ -1,0 +1,13 @@
+// What holds of every stub, each law the contract of a function that does nothing.
+ghost use Rattle.ndr_frs.specs.Laws.{RepliesAreExact, RequestsAreExact};
+
+/// A stub is read as the request that it spells and as no other, and what is written is one of the
+/// request's spellings.
+pub fn requests_are_exact()
+    ensures { RequestsAreExact }
+{}
+
+/// The same of replies.
+pub fn replies_are_exact()
+    ensures { RepliesAreExact }
+{}
