@@ -1,5 +1,5 @@
 #!/bin/sh
-# Times reading and writing a fragment of 1,432 bytes, and a stream of such fragments that comes in
+# Times reading and writing a fragment of 1,432 bytes and a page of 256 updates, and a stream of such fragments that comes in
 # single bytes. Each figure is of the best of five runs, with the start of the process in it.
 # Usage: bench/wire.sh, anywhere in the repository.
 set -eu
@@ -22,4 +22,6 @@ timed() {
 
 timed decode 200000
 timed encode 200000
+timed read_page 5000
+timed write_page 5000
 timed bytes 200

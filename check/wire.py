@@ -9,6 +9,7 @@ is built first where it has to be.
 import hashlib
 import pathlib
 import random
+import resource
 import struct
 import subprocess
 import sys
@@ -633,11 +634,36 @@ def bad_rows():
             sys.exit(f"words {words}: status {done.returncode}")
 
 
+def claims():
+    """Rows whose numbers claim up to 2^64 bytes, within 32 MiB of memory."""
+    rows = []
+    hint = write_pdu(0, 1, 1, (0xFFFFFFFF, 0, 3, b"x"))
+    rows.append((f"feed {digits(hint)}", feed_answer([hint])))
+    for length in (1 << 31, 1 << 32, 1 << 62, (1 << 63) - 44, (1 << 64) - 1):
+        form = b"FRSM" + struct.pack("<IIIQIIIQ", 1, 1, 0, 4, 0x20, 2, 0, length) + b"x"
+        rows.append((f"form {digits(form)}", form_answer(form)))
+    for word, table in (("request", REQUESTS), ("reply", REPLIES)):
+        for opnum in table:
+            stub = Maker(opnum).stub(table, opnum)
+            for at in range(0, len(stub), 4):
+                for count in (131_072, 0x7FFFFFFF, 0xFFFFFFFF):
+                    data = stub[:at] + struct.pack("<I", count) + stub[at + 4 :]
+                    rows.append((f"{word} {opnum} {digits(data)}", stub_answer(table, opnum, data)))
+    for part in range(0, len(rows), 200):
+        some = rows[part : part + 200]
+        text = "".join(row + "\n" for row, _ in some).encode()
+        limit = lambda: resource.setrlimit(resource.RLIMIT_AS, (32 << 20, 32 << 20))
+        done = subprocess.run([PROGRAM], input=text, stdout=subprocess.PIPE, preexec_fn=limit, check=False)
+        if (done.returncode, done.stdout.decode().split("\n")[:-1]) != (0, [answer for _, answer in some]):
+            sys.exit(f"status {done.returncode} of rows with large counts")
+
+
 def main(words):
     count = int(words[0]) if words else 100_000
     maker = Maker(int(words[1]) if len(words) > 1 else 0)
     subprocess.run([TOP / "frswire", "--version"], stdout=subprocess.DEVNULL, check=True)
     bad_rows()
+    claims()
     rows, answers = [], []
     for row, answer in maker.rows():
         rows.append(spelled(maker.random, row))

@@ -28,6 +28,9 @@ for each. HEX is an even number of hexadecimal digits, or - for no bytes.
   feed HEX HEX ..  the pieces of a stream: pdu N KIND for each PDU and
                    whole CALL CONTEXT OPNUM HEX for each call that is complete,
                    parted by ; and at the end bad NAME or rest N
+  request OPNUM HEX, reply OPNUM HEX
+                   bad NAME AT; or stub HEX, the value that the stub is written
+                   again
   form HEX         bad AT, or file ATTRIBUTES PLACE SUM
 
   --help, --version  print this text, or the version

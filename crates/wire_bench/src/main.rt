@@ -10,7 +10,7 @@ use crate::work::{BenchError, Job, run};
 use std::process::ExitCode;
 use std::{env, io};
 
-const USAGE: &str = "usage: wire_bench decode|encode|bytes COUNT\n";
+const USAGE: &str = "usage: wire_bench decode|encode|read_page|write_page|bytes COUNT\n";
 
 /// What the words ask for: the job, and how often it is done.
 fn job_of(words: &[String]) -> Option<(Job, u64)> {
@@ -20,6 +20,8 @@ fn job_of(words: &[String]) -> Option<(Job, u64)> {
     let job = match job.as_str() {
         "decode" => Job::Decode,
         "encode" => Job::Encode,
+        "read_page" => Job::ReadPage,
+        "write_page" => Job::WritePage,
         "bytes" => Job::Bytes,
         _ => return None,
     };

@@ -1,11 +1,16 @@
 // The jobs.
 ghost use Rattle.std.specs.Prelude.{IfOk, IsTrue};
+ghost use Rattle.ndr_frs.specs.Replies.{IsStatedReply};
 ghost use Rattle.rpc_pdu.specs.Laws.{IsWritable};
 ghost use Rattle.rpc_frag.specs.Fragments.{IsPart};
 
+use ndr_frs::{FrsReply, read_reply, write_reply};
 use rpc_frag::{Assembler, Splitter};
 use rpc_pdu::{Pdu, PduBody, decode, encode};
 use std::alloc::{AllocError, AllocFailed, Global};
+
+/// The number of RequestUpdates.
+const REQUEST_UPDATES: u16 = 3;
 
 /// What is done over and over.
 #[derive(Clone, Copy, Debug, PartialEq, Eq)]
@@ -14,7 +19,11 @@ pub enum Job {
     Decode,
     /// It is written.
     Encode,
-    /// A stream of such fragments, 40 for each call, comes in pieces of one byte.
+    /// The stub of a reply with 256 updates is read.
+    ReadPage,
+    /// It is written.
+    WritePage,
+    /// A stream of fragments of 1,432 bytes, 40 for each call, comes in pieces of one byte.
     Bytes,
 }
 
@@ -80,6 +89,51 @@ fn encode_often(alloc: Global, count: u64) -> Result<u64, BenchError> {
     let mut total: u64 = 0;
     for _ in 0..count {
         total = total.wrapping_add(encode(alloc, &pdu)?.len() as u64);
+    }
+    Ok(total)
+}
+
+/// The stub of a reply to RequestUpdates, with 256 updates of files named `x`.
+fn page(alloc: Global) -> Result<Vec<u8>, AllocError> {
+    let mut bytes = Vec::new(alloc);
+    bytes.extend_from_slice(&[0, 1, 0, 0, 0, 0, 0, 0, 0, 1, 0, 0, 0, 0, 0, 0])?;
+    for _ in 0..256 {
+        bytes.extend_from_slice(&[0; 168])?;
+        bytes.extend_from_slice(&[0, 0, 0, 0, 2, 0, 0, 0, b'x', 0, 0, 0, 0, 0, 0, 0])?;
+    }
+    bytes.extend_from_slice(&[0, 1, 0, 0, 2, 0, 0, 0])?;
+    bytes.extend_from_slice(&[0; 28])?;
+    Ok(bytes)
+}
+
+/// The reply that a stub is.
+fn reply_of(alloc: Global, stub: &[u8]) -> Result<FrsReply, BenchError>
+    ensures { IfOk result IsStatedReply }
+{
+    match read_reply(alloc, REQUEST_UPDATES, stub) {
+        Ok(reply) => Ok(reply),
+        Err(_) => Err(BenchError::Bad),
+    }
+}
+
+/// Reads a page so many times.
+fn read_page_often(alloc: Global, count: u64) -> Result<u64, BenchError> {
+    let stub = page(alloc)?;
+    let mut total: u64 = 0;
+    for _ in 0..count {
+        let _reply = reply_of(alloc, &stub)?;
+        total = total.wrapping_add(stub.len() as u64);
+    }
+    Ok(total)
+}
+
+/// Writes a page so many times.
+fn write_page_often(alloc: Global, count: u64) -> Result<u64, BenchError> {
+    let stub = page(alloc)?;
+    let reply = reply_of(alloc, &stub)?;
+    let mut total: u64 = 0;
+    for _ in 0..count {
+        total = total.wrapping_add(write_reply(alloc, &reply)?.len() as u64);
     }
     Ok(total)
 }
@@ -156,6 +210,8 @@ pub fn run(alloc: Global, job: Job, count: u64) -> Result<u64, BenchError> {
     match job {
         Job::Decode => decode_often(alloc, count),
         Job::Encode => encode_often(alloc, count),
+        Job::ReadPage => read_page_often(alloc, count),
+        Job::WritePage => write_page_often(alloc, count),
         Job::Bytes => feed_often(alloc, count),
     }
 }

@@ -1,6 +1,10 @@
 -- The words of answers.
 use Rattle.std.specs.Prelude.{◌++◌, ◌==◌, ℕ, List, codes, decimal, length, if◌then◌else◌}
 use Rattle.hex.specs.Hex.{encode_lower}
+use Rattle.ndr_core.specs.declared.refusal.NdrBad.{NdrBad}
+use Rattle.ndr_core.specs.declared.refusal.NdrBad.TheVariants as items
+use Rattle.ndr_frs.specs.declared.refusal.StubBad.{StubBad}
+use Rattle.ndr_frs.specs.declared.refusal.StubBad.TheVariants as stubs
 use Rattle.rpc_pdu.specs.declared.pdu.PduBody.{PduBody}
 use Rattle.rpc_pdu.specs.declared.pdu.PduBody.TheVariants as bodies
 use Rattle.rpc_pdu.specs.declared.refusal.PduBad.{PduBad}
@@ -46,3 +50,16 @@ bad_text (pdus.Body at) = codes "bad Body " ++ decimal at
 abbrev pub frag_bad_text : FragBad → List ℕ
 frag_bad_text FragOrder = codes "bad FragOrder"
 frag_bad_text (FragTooLong length) = codes "bad FragTooLong " ++ decimal length
+
+-- an item that is refused, and its place
+abbrev pub item_bad_text : NdrBad → List ℕ
+item_bad_text (items.Short at) = codes "bad Short " ++ decimal at
+item_bad_text (items.Count at) = codes "bad Count " ++ decimal at
+item_bad_text (items.Terminator at) = codes "bad Terminator " ++ decimal at
+item_bad_text (items.Value at) = codes "bad Value " ++ decimal at
+item_bad_text (items.Rest at) = codes "bad Rest " ++ decimal at
+
+-- bytes that are no stub
+abbrev pub stub_bad_text : StubBad → List ℕ
+stub_bad_text (stubs.Item bad) = item_bad_text bad
+stub_bad_text stubs.Opnum = codes "bad Opnum"

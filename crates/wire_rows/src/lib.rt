@@ -11,6 +11,7 @@ mod feeding;
 mod hexing;
 mod laws;
 mod naming;
+mod number;
 mod reading;
 mod row;
 

@@ -1,8 +1,10 @@
 // Names of kinds and of refusals.
 ghost use Rattle.std.specs.Prelude.{◌≡◌, IfOk, string_bytes};
-ghost use Rattle.wire_rows.specs.Naming.{bad_text, call_text, frag_bad_text, kind_name, pdu_text};
+ghost use Rattle.wire_rows.specs.Naming.{bad_text, call_text, frag_bad_text, item_bad_text, kind_name, pdu_text, stub_bad_text};
 
 use crate::hexing::hex_word;
+use ndr_core::NdrBad;
+use ndr_frs::StubBad;
 use rpc_frag::{FragBad, Whole};
 use rpc_pdu::{PduBad, PduBody};
 use std::alloc::{AllocError, Global};
@@ -45,6 +47,29 @@ pub fn frag_bad_text(alloc: Global, bad: FragBad) -> Result<String, AllocError>
     match bad {
         FragBad::FragOrder => String::from_str(alloc, "bad FragOrder"),
         FragBad::FragTooLong { length } => format!(in alloc; "bad FragTooLong {length}"),
+    }
+}
+
+/// What is said of an item that is refused.
+fn item_bad_text(alloc: Global, bad: NdrBad) -> Result<String, AllocError>
+    ensures { IfOk result (λ text. string_bytes text ≡ item_bad_text bad) }
+{
+    match bad {
+        NdrBad::Short { at } => format!(in alloc; "bad Short {at}"),
+        NdrBad::Count { at } => format!(in alloc; "bad Count {at}"),
+        NdrBad::Terminator { at } => format!(in alloc; "bad Terminator {at}"),
+        NdrBad::Value { at } => format!(in alloc; "bad Value {at}"),
+        NdrBad::Rest { at } => format!(in alloc; "bad Rest {at}"),
+    }
+}
+
+/// What is said of bytes that are no stub.
+pub fn stub_bad_text(alloc: Global, bad: StubBad) -> Result<String, AllocError>
+    ensures { IfOk result (λ text. string_bytes text ≡ stub_bad_text bad) }
+{
+    match bad {
+        StubBad::Item(bad) => item_bad_text(alloc, bad),
+        StubBad::Opnum => String::from_str(alloc, "bad Opnum"),
     }
 }
 

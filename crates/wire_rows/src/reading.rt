@@ -1,8 +1,9 @@
 // From the text of a row to what it asks.
 ghost use Rattle.std.specs.Prelude.{◌≡◌, ◌==◌, MatchOption, position};
-ghost use Rattle.wire_rows.specs.Reading.{Reads, cut, keyword_in, pieces_in, row_in, row_with};
+ghost use Rattle.wire_rows.specs.Reading.{Reads, cut, keyword_in, pieces_in, row_in, row_with, stub_in};
 
 use crate::hexing::bytes_in;
+use crate::number::number_in;
 use crate::{RowError, WireRow};
 use frs_base::{Bytes, List};
 use std::alloc::Global;
@@ -11,6 +12,8 @@ use std::alloc::Global;
 #[derive(Clone, Copy, Debug, PartialEq, Eq)]
 pub enum Keyword {
     Pdu,
+    Request,
+    Reply,
     Feed,
     Form,
 }
@@ -38,6 +41,10 @@ fn keyword_in(word: &[u8]) -> Option<Keyword>
 {
     if word == b"pdu".as_slice() {
         Some(Keyword::Pdu)
+    } else if word == b"request".as_slice() {
+        Some(Keyword::Request)
+    } else if word == b"reply".as_slice() {
+        Some(Keyword::Reply)
     } else if word == b"feed".as_slice() {
         Some(Keyword::Feed)
     } else if word == b"form".as_slice() {
@@ -61,12 +68,33 @@ fn pieces_in(alloc: Global, words: &[u8]) -> Result<List<Bytes>, RowError>
     Ok(List::of(pieces))
 }
 
+/// The method's number and the stub that two words spell.
+fn stub_in(alloc: Global, words: &[u8]) -> Result<(u16, Bytes), RowError>
+    ensures { Reads result (stub_in words.now) }
+{
+    let Some((number, digits)) = cut(words) else {
+        return Err(RowError::Bad);
+    };
+    let Some(opnum) = number_in(number) else {
+        return Err(RowError::Bad);
+    };
+    Ok((opnum, bytes_in(alloc, digits)?))
+}
+
 /// What a row asks, by its keyword and the words behind it.
 fn row_with(alloc: Global, keyword: Keyword, words: &[u8]) -> Result<WireRow, RowError>
     ensures { Reads result (row_with keyword words.now) }
 {
     match keyword {
         Keyword::Pdu => Ok(WireRow::Pdu(bytes_in(alloc, words)?)),
+        Keyword::Request => {
+            let (opnum, stub) = stub_in(alloc, words)?;
+            Ok(WireRow::Request { opnum, stub })
+        }
+        Keyword::Reply => {
+            let (opnum, stub) = stub_in(alloc, words)?;
+            Ok(WireRow::Reply { opnum, stub })
+        }
         Keyword::Feed => Ok(WireRow::Feed(pieces_in(alloc, words)?)),
         Keyword::Form => Ok(WireRow::Form(bytes_in(alloc, words)?)),
     }

@@ -1,5 +1,6 @@
 use Rattle.std.proofs.Common.{◌≡◌, ◌∙◌, ◌+◌, ◌++◌, [], length, sym, ap, subst, arith}
 use Rattle.std.specs.Prelude.{string_bytes}
+use Rattle.frs_io.specs.Told.{TakesSome}
 use Rattle.frs_io.proofs.Outcomes.{OnErr-of_fact}
 use Rattle.frs_io.proofs.Told.{Takes-nil}
 use Rattle.frswire.specs.Rows.{bad_line}
@@ -34,8 +35,8 @@ returns-in_err-hand_on-in-Row-clause-err g c =
     let told = next_row _ _ _ _ _ (string_bytes c.rows.pending) (string_bytes c.push_str.new.self) (string_bytes c.in-Row.said) c.in-Row.size c.rows.invariant.told next pushed in
     OnErr-of_fact _ (some_more _ _ _ _ _ _ _ told c.in_err-hand_on-in-Row.ensures.err)
 
-pub behind-requires : goal.behind-requires
-behind-requires g c =
+pub behind-rest-requires : goal.behind-rest-requires
+behind-rest-requires g c =
     let next = subst (λ n. IsNext n c.rows.rest.now) c.in-Row.is c.in_ok-said.ensures in
     (row_there c.rows.rest.now (string_bytes c.in-Row.said) c.in-Row.size next).0
 
@@ -46,7 +47,7 @@ rows-preserved g c =
     let told = next_row _ _ _ _ _ (string_bytes c.rows.pending) (string_bytes c.push_str.new.self) (string_bytes c.in-Row.said) c.in-Row.size c.rows.invariant.told next pushed in
     record {
       later = omega (arith, c.rows.invariant.later, c.in_ok-hand_on-in-Row.ensures.cause.later);
-      told = subst (λ r. SoFar c.args.bytes.now r (c.rows.number + 1) (g.K.Sink.taken c.args.out.now) (g.K.Sink.taken c.hand_on.new.sink) (string_bytes c.hand_on.new.pending)) (sym c.behind.ensures)
+      told = subst (λ r. SoFar c.args.bytes.now r (c.rows.number + 1) (g.K.Sink.taken c.args.out.now) (g.K.Sink.taken c.hand_on.new.sink) (string_bytes c.hand_on.new.pending)) (sym c.behind-rest.ensures)
           (moved _ _ _ _ _ _ _ _ told c.in_ok-hand_on-in-Row.ensures.moved);
     }
 
@@ -69,7 +70,11 @@ returns-in-Bad-clause-ok g c =
     bad_written _ _ _ _ _ _ _ _ c.rows.invariant.told pushed c.in_ok-write_all-in-Bad.ensures.ok next
 
 pub returns-in_err-write_all-in-Nothing-clause-err : goal.returns-in_err-write_all-in-Nothing-clause-err
-returns-in_err-write_all-in-Nothing-clause-err g c = ?
+returns-in_err-write_all-in-Nothing-clause-err g c =
+    let some = subst (TakesSome (g.K.Sink.taken c.rows.out) (g.K.Sink.taken c.write_all-in-Nothing.new.sink)) c.as_bytes-in-Nothing.ensures.value c.in_err-write_all-in-Nothing.ensures.err in
+    OnErr-of_fact _ (some_more _ _ _ _ _ _ _ c.rows.invariant.told some)
 
 pub returns-in_err-write_all-in-Long-clause-err : goal.returns-in_err-write_all-in-Long-clause-err
-returns-in_err-write_all-in-Long-clause-err g c = ?
+returns-in_err-write_all-in-Long-clause-err g c =
+    let some = subst (TakesSome (g.K.Sink.taken c.rows.out) (g.K.Sink.taken c.write_all-in-Long.new.sink)) c.as_bytes-in-Long.ensures.value c.in_err-write_all-in-Long.ensures.err in
+    OnErr-of_fact _ (some_more _ _ _ _ _ _ _ c.rows.invariant.told some)

@@ -14,6 +14,8 @@ one_form form a b (inr (at, bad, says)) (inr (other, also, says')) = says ∙ ap
 
 one : OneAnswer
 one (rows.Pdu bytes) a b is also = is ∙ sym also
+one (rows.Request opnum stub) a b is also = is ∙ sym also
+one (rows.Reply opnum stub) a b is also = is ∙ sym also
 one (rows.Feed pieces) a b is also = is ∙ sym also
 one (rows.Form form) a b is also = one_form form a b is also
 
