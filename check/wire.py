@@ -50,6 +50,10 @@ class Reader:
         self.at = begin + count
         return self.data[begin : begin + count]
 
+    def pad(self, align):
+        """Padding alone, which is refused where it begins."""
+        self.take(-self.at % align)
+
     def number(self, size, align=None):
         return int.from_bytes(self.take(size, align or size), "little")
 
@@ -293,7 +297,7 @@ def read_name(r):
 
 
 def read_interval(r):
-    r.take(0, 8)
+    r.pad(8)
     return r.guid(), r.number(8), r.number(8)
 
 
@@ -312,7 +316,7 @@ def read_field(r, field):
     if kind == "name":
         return read_name(r)
     if kind == "update":
-        r.take(0, 8)
+        r.pad(8)
         return [read_field(r, each) for each in UPDATE]
     if kind == "counted":
         said = r.number(4)

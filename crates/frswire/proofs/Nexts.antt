@@ -8,8 +8,7 @@ use Rattle.frswire.proofs.Feeds.{FeedsAt}
 
 pub is_next : (next : Found) (bytes row : List ℕ) (at : ℕ) → FeedsAt bytes at → row ≡ take at bytes → IsAt next row → IsNext next bytes
 is_next (founds.Row said size) bytes row at feeds is (answered, size_is) =
-    let end : at + 1 ≡ size = omega (arith, size_is, feeds.size, ap length is) in
-    (
+    let end : at + 1 ≡ size = omega (arith, size_is, feeds.size, ap length is) in (
       row,
       size_is,
       feeds.parts ∙ ap (λ r. r ++ 10 ∷ drop (at + 1) bytes) (sym is) ∙ ap (λ k. row ++ 10 ∷ drop k bytes) end ∙ sym (append_assoc row (10 ∷ []) (drop size bytes)),

@@ -114,13 +114,12 @@ bad_written text rest number old now new pending grown s more takes bad =
 
 pub bad_some : (text rest : List ℕ) (number : ℕ) (old now new : Option (List ℕ)) (pending grown : List ℕ) → SoFar text rest number old now pending → grown ≡ pending ++ bad_line (number + 1) → TakesSome now new grown → IsNext founds.Bad rest
     → WritesSome text old new
-bad_some text rest number old now new pending grown s more some bad =
-    (
-      s.said ++ bad_line (number + 1),
-      inr (is_bad text rest number old now pending s bad),
-      subst (TakesSome old new) (sym (ap (λ t. t ++ bad_line (number + 1)) s.split ∙ append_assoc s.front pending (bad_line (number + 1))))
+bad_some text rest number old now new pending grown s more some bad = (
+  s.said ++ bad_line (number + 1),
+  inr (is_bad text rest number old now pending s bad),
+  subst (TakesSome old new) (sym (ap (λ t. t ++ bad_line (number + 1)) s.split ∙ append_assoc s.front pending (bad_line (number + 1))))
       (Takes-TakesSome old now new s.front (pending ++ bad_line (number + 1)) s.takes (subst (TakesSome now new) more some)),
-    )
+)
 
 -- a row has a line feed at least, and its bytes are there
 pub row_there : (rest said : List ℕ) (size : ℕ) → (row : List ℕ) × (size ≡ length row + 1) × (rest ≡ (row ++ 10 ∷ []) ++ drop size rest) × Answered row said → (size ≤ length rest) × (length (drop size rest) < length rest)

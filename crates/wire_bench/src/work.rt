@@ -177,7 +177,9 @@ fn feed_pdu(stream: &mut Stream, pdu: Pdu) -> Result<(), BenchError> {
     }
     match stream.assembler.feed(pdu) {
         Ok(Some(whole)) => {
-            stream.total = stream.total.wrapping_add(whole.stub.as_slice().len() as u64);
+            stream.total = stream
+                .total
+                .wrapping_add(whole.stub.as_slice().len() as u64);
             Ok(())
         }
         Ok(None) => Ok(()),

@@ -56,29 +56,34 @@ took old new before now are (x, call, found, gave, rest, says) =
         let size = sized old.splitter.rest x.0 x.1 are found in
         let same : drop x.1 (old.splitter.rest ++ tail) ≡ new.splitter.rest ++ tail = drop-append-le x.1 old.splitter.rest tail size.there ∙ ap (λ r. r ++ tail) (sym rest) in
         let fewer : length (new.splitter.rest ++ tail) < left =
-        omega (arith, lt, is, size.long, size.there, ap length rest, length-drop x.1 old.splitter.rest, length-append old.splitter.rest tail, length-append new.splitter.rest tail) in
-        (
+        omega (arith, lt, is, size.long, size.there, ap length rest, length-drop x.1 old.splitter.rest, length-append old.splitter.rest tail, length-append new.splitter.rest tail) in (
           left,
           fewer,
           ap (λ t. stream_text t old.assembler (old.splitter.rest ++ tail)) is
-          ∙ front_is left old.assembler (old.splitter.rest ++ tail) (Ok (Some x)) (some_stays old.splitter.rest tail x are found)
-          ∙ ap (λ f. pdu_part x ++ behind f (λ after. stream_text left after (drop x.1 (old.splitter.rest ++ tail)))) gave
-          ∙ ap (λ r. pdu_part x ++ (call_part call ++ stream_text left new.assembler r)) same
-          ∙ sym (append_assoc (pdu_part x) (call_part call) (stream_text left new.assembler (new.splitter.rest ++ tail))),
+              ∙ front_is left old.assembler (old.splitter.rest ++ tail) (Ok (Some x)) (some_stays old.splitter.rest tail x are found)
+              ∙ ap (λ f. pdu_part x ++ behind f (λ after. stream_text left after (drop x.1 (old.splitter.rest ++ tail)))) gave
+              ∙ ap (λ r. pdu_part x ++ (call_part call ++ stream_text left new.assembler r)) same
+              ∙ sym (append_assoc (pdu_part x) (call_part call) (stream_text left new.assembler (new.splitter.rest ++ tail))),
         )
 
 pub ended : (old new : Stream) (before now : List ℕ) → AreBytes old.splitter.rest → Turns Ended old new before now → (said : List ℕ) × (now ≡ before ++ said) × Closes old said
-ended old new before now are (inl (bad, found, says)) =
-    (bad_text bad, says, λ tail turns lt.
-    let (left, is) = some_turns (length (old.splitter.rest ++ tail)) turns lt in
-    ap (λ t. stream_text t old.assembler (old.splitter.rest ++ tail)) is
-    ∙ front_is left old.assembler (old.splitter.rest ++ tail) (Err bad) (bad_stays old.splitter.rest tail bad are found))
-ended old new before now are (inr (x, bad, found, refused, says)) =
-    (pdu_part x ++ frag_bad_text bad, says, λ tail turns lt.
-    let (left, is) = some_turns (length (old.splitter.rest ++ tail)) turns lt in
-    ap (λ t. stream_text t old.assembler (old.splitter.rest ++ tail)) is
-    ∙ front_is left old.assembler (old.splitter.rest ++ tail) (Ok (Some x)) (some_stays old.splitter.rest tail x are found)
-    ∙ ap (λ f. pdu_part x ++ behind f (λ after. stream_text left after (drop x.1 (old.splitter.rest ++ tail)))) refused)
+ended old new before now are (inl (bad, found, says)) = (
+  bad_text bad,
+  says,
+  λ tail turns lt.
+      let (left, is) = some_turns (length (old.splitter.rest ++ tail)) turns lt in
+      ap (λ t. stream_text t old.assembler (old.splitter.rest ++ tail)) is
+      ∙ front_is left old.assembler (old.splitter.rest ++ tail) (Err bad) (bad_stays old.splitter.rest tail bad are found),
+)
+ended old new before now are (inr (x, bad, found, refused, says)) = (
+  pdu_part x ++ frag_bad_text bad,
+  says,
+  λ tail turns lt.
+      let (left, is) = some_turns (length (old.splitter.rest ++ tail)) turns lt in
+      ap (λ t. stream_text t old.assembler (old.splitter.rest ++ tail)) is
+      ∙ front_is left old.assembler (old.splitter.rest ++ tail) (Ok (Some x)) (some_stays old.splitter.rest tail x are found)
+      ∙ ap (λ f. pdu_part x ++ behind f (λ after. stream_text left after (drop x.1 (old.splitter.rest ++ tail)))) refused,
+)
 
 -- ---- turns one after the other
 
@@ -121,12 +126,11 @@ no_bytes i = lit< tt
 
 -- nothing has come
 pub told_nothing : (s : Stream) (said : List ℕ) → IsFresh s → said ≡ [] → Told [] s said
-told_nothing s said fresh none tail =
-    (
-      suc (length tail),
-      omega (arith, ap (λ r. length (r ++ tail)) fresh.rest),
-      λ i. sym none i ++ stream_text (suc (length tail)) (sym fresh.begun i) (sym fresh.rest i ++ tail),
-    )
+told_nothing s said fresh none tail = (
+  suc (length tail),
+  omega (arith, ap (λ r. length (r ++ tail)) fresh.rest),
+  λ i. sym none i ++ stream_text (suc (length tail)) (sym fresh.begun i) (sym fresh.rest i ++ tail),
+)
 
 -- what comes behind a piece
 piece_is : (old new : Stream) (piece tail : List ℕ) → Pushed old new piece → new.splitter.rest ++ tail ≡ old.splitter.rest ++ (piece ++ tail)
@@ -136,16 +140,15 @@ pub told_more : (came said piece now more : List ℕ) (a b c : Stream) → Told 
 told_more came said piece now more a b c told pushed leads says tail =
     let (left, fewer, is) = told (piece ++ tail) in
     let same = piece_is a b piece tail pushed in
-    let (rest, less, then) = leads tail left (omega (arith, fewer, ap length same)) in
-    (
+    let (rest, less, then) = leads tail left (omega (arith, fewer, ap length same)) in (
       rest,
       less,
       ap (λ bytes. stream_text (suc (length bytes)) None bytes) (append_assoc came piece tail)
-      ∙ is
-      ∙ (λ i. said ++ stream_text left (sym pushed.begun i) (sym same i))
-      ∙ ap (λ t. said ++ t) then
-      ∙ sym (append_assoc said more (stream_text rest c.assembler (c.splitter.rest ++ tail)))
-      ∙ ap (λ t. t ++ stream_text rest c.assembler (c.splitter.rest ++ tail)) (sym says),
+          ∙ is
+          ∙ (λ i. said ++ stream_text left (sym pushed.begun i) (sym same i))
+          ∙ ap (λ t. said ++ t) then
+          ∙ sym (append_assoc said more (stream_text rest c.assembler (c.splitter.rest ++ tail)))
+          ∙ ap (λ t. t ++ stream_text rest c.assembler (c.splitter.rest ++ tail)) (sym says),
     )
 
 pub told_all : (came said piece now more tail all : List ℕ) (a b : Stream) → Told came a said → Pushed a b piece → Closes b more → now ≡ said ++ more → all ≡ (came ++ piece) ++ tail → now ≡ stream_text (suc (length all)) None all

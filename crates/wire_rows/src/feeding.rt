@@ -52,10 +52,7 @@ fn feed(assembler: &mut Assembler, pdu: Pdu) -> Result<Option<Whole>, FragError>
 }
 
 /// The next PDU of a stream, and how many bytes it has.
-fn take_sized(
-    alloc: Global,
-    splitter: &mut Splitter,
-) -> Result<Option<(Pdu, usize)>, StreamError>
+fn take_sized(alloc: Global, splitter: &mut Splitter) -> Result<Option<(Pdu, usize)>, StreamError>
     ensures { Takes result splitter.old splitter.new }
 {
     let before = splitter.at();

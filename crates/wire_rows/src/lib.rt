@@ -21,6 +21,5 @@ pub use laws::one_answer;
 pub use reading::row_of;
 pub use row::WireRow;
 
-
 #[cfg(test)]
 mod tests;

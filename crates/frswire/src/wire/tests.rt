@@ -44,11 +44,7 @@ fn rows_and_their_ends(rt: HostRuntime) -> Result<(), Fail> {
         ("pdu -\nform -\n", Status::Done, "more\nbad 0\n"),
         ("\n", Status::RowBad, "bad line 1\n"),
         ("pdu -", Status::RowBad, "bad line 1\n"),
-        (
-            "pdu -\nfrob\npdu -\n",
-            Status::RowBad,
-            "more\nbad line 2\n",
-        ),
+        ("pdu -\nfrob\npdu -\n", Status::RowBad, "more\nbad line 2\n"),
         ("pdu -\npdu -", Status::RowBad, "more\nbad line 2\n"),
     ] {
         expect(&rt, alloc, bytes.as_bytes(), status, written)?;
