@@ -1,5 +1,5 @@
 // PDUs off a stream that comes in pieces.
-ghost use Rattle.std.specs.Prelude.{◌≡◌, []};
+ghost use Rattle.std.specs.Prelude.{◌≡◌, [], length};
 ghost use Rattle.rpc_pdu.specs.Decoding.{decoded};
 ghost use Rattle.rpc_frag.specs.Splitting.{Pushes, Steps};
 
@@ -44,6 +44,20 @@ impl Splitter {
             taken: 0,
             bytes: Vec::new(alloc),
         }
+    }
+
+    /// The place in the stream up to which it was taken.
+    pub fn at(&self) -> usize
+        ensures { result ≡ self.now.at }
+    {
+        self.at
+    }
+
+    /// How many bytes came and weren't taken.
+    pub fn left(&self) -> usize
+        ensures { result ≡ length self.now.rest }
+    {
+        self.bytes.len() - self.taken
     }
 
     /// Forgets the bytes that were taken.

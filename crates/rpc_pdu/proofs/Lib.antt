@@ -4,3 +4,4 @@ pub mod Bodies
 pub mod Decoded
 pub mod Spelled
 pub mod Steady
+pub mod Writable

@@ -2,7 +2,7 @@
 use Rattle.std.specs.Prelude.{◌≡◌, ◌⊎◌, ◌≤◌, ◌++◌, ℕ, List, None, Some, Ok, length, take}
 use Rattle.ndr_core.specs.Items.{AreBytes}
 use Rattle.rpc_pdu.specs.Decoding.{decoded}
-use Rattle.rpc_pdu.specs.Encoding.{encoded}
+use Rattle.rpc_pdu.specs.Encoding.{HasFewTransfers, HasNoObject, encoded, encoded_as}
 use Rattle.rpc_pdu.specs.Spelling.{IsPdu, Spells}
 use Rattle.rpc_pdu.specs.declared.pdu.Pdu.{Pdu}
 
@@ -25,3 +25,13 @@ PdusReadBack = (p : Pdu) (rest : List ℕ) → IsPdu p → decoded (encoded p ++
 -- more bytes change nothing of what was said of some, but that there is no PDU yet
 abbrev pub MoreChangesNothing : Type 0
 MoreChangesNothing = (bytes piece : List ℕ) → AreBytes bytes → (decoded bytes ≡ Ok None) ⊎ (decoded (bytes ++ piece) ≡ decoded bytes)
+
+-- what `encode` asks of a PDU
+pub record IsWritable (p : Pdu) : Type 0 where
+  pub transfers : HasFewTransfers p.body
+  pub object : HasNoObject p
+  pub short : length (encoded_as p 0) ≤ 5840
+
+-- what was read can be written
+abbrev pub WhatIsReadIsWritable : Type 0
+WhatIsReadIsWritable = (bytes : List ℕ) (p : Pdu) (size : ℕ) → AreBytes bytes → decoded bytes ≡ Ok (Some (p, size)) → IsWritable p

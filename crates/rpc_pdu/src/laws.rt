@@ -1,5 +1,5 @@
 // What holds of every PDU, each law the contract of a function that does nothing.
-ghost use Rattle.rpc_pdu.specs.Laws.{MoreChangesNothing, PdusAreReadAsSpelled, PdusAreSpelled, PdusReadBack, WhatIsReadIsSpelled};
+ghost use Rattle.rpc_pdu.specs.Laws.{MoreChangesNothing, PdusAreReadAsSpelled, PdusAreSpelled, PdusReadBack, WhatIsReadIsSpelled, WhatIsReadIsWritable};
 
 /// What [`encode`] gives is a spelling of its PDU.
 ///
@@ -29,4 +29,11 @@ pub fn pdus_read_back()
 /// [`decode`]: crate::decode
 pub fn more_bytes_change_nothing()
     ensures { MoreChangesNothing }
+{}
+
+/// What is read of bytes meets all that [`encode`] asks.
+///
+/// [`encode`]: crate::encode
+pub fn what_is_read_is_writable()
+    ensures { WhatIsReadIsWritable }
 {}
