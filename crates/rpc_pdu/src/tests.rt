@@ -75,25 +75,6 @@ fn is_ack(ack: &BindAck) -> bool {
         && outcome.transfer.version == 2
 }
 
-/// Whether bytes are a PDU that is written as they are.
-fn is_written_back(alloc: Global, bytes: &[u8]) -> bool {
-    let Ok(Some((pdu, _))) = decode(alloc, bytes) else {
-        return false;
-    };
-    match encode(alloc, &pdu) {
-        Ok(written) => written.as_slice() == bytes,
-        Err(_) => false,
-    }
-}
-
-#[test]
-fn wire_written_back(rt: HostRuntime) {
-    let alloc = rt.alloc();
-    for bytes in [BIND.as_slice(), &BIND_ACK, &REQUEST, &FAULT, &NAK] {
-        assert!(rt; is_written_back(alloc, bytes), "{bytes:?}");
-    }
-}
-
 #[test]
 fn wire_bind(rt: HostRuntime) -> Result<(), Fail> {
     let Some((pdu, size)) = decode(rt.alloc(), &BIND)? else {
