@@ -140,16 +140,22 @@ fn path_of(alloc: Global, components: &[&str]) -> Result<List<Name>, Fail> {
 // What owns a line or a list of lines lends it to one function: each early return past one that is
 // owned makes a proof much longer.
 
-/// Whether the row is read as this one line.
+/// Whether the row is read as this one line, which is printed as the row.
 fn is_read_as(alloc: Global, row: &str, line: &Line) -> Result<bool, Fail> {
     let lines = parse(alloc, row.as_bytes())?;
-    Ok(lines.len() == 1 && lines[0] == *line)
+    let mut is = lines.len() == 1 && lines[0] == *line;
+    for read in &lines {
+        match print(alloc, read) {
+            Ok(text) => is = is && text.as_str() == row,
+            Err(_) => is = false,
+        }
+    }
+    Ok(is)
 }
 
 /// The row is read as this line, and the line is printed as the row.
 fn try_row(rt: &impl Abort, alloc: Global, row: &str, line: &Line) -> Result<(), Fail> {
     assert!(rt; is_read_as(alloc, row, line)?, "{row:?} {line:?}");
-    assert_eq!(rt; print(alloc, line)?.as_str(), row);
     Ok(())
 }
 
