@@ -2,6 +2,7 @@
 use super::*;
 use frs_base::{Gvsn, database_of};
 use std::alloc::Global;
+use std::process::Abort;
 use std::test::Fail;
 
 /// The intervals that a text names, as `a:9..12 b:3..5`, or `none`: `a` is the first member's
@@ -115,45 +116,79 @@ fn vectors(rt: HostRuntime) -> Result<(), Fail> {
     Ok(())
 }
 
+// What owns a set lends it to one function: each early return past one that is owned makes a proof
+// much longer.
+
+/// Versions that are added one after the other, and the set after each.
+const ADDED: [(u64, u64, &str); 8] = [
+    (1, 9, "a:9..10"),
+    (1, 11, "a:9..10 a:11..12"),
+    (2, 10, "a:9..10 a:11..12 b:10..11"),
+    (1, 10, "a:9..12 b:10..11"),
+    (1, 8, "a:8..12 b:10..11"),
+    (1, 10, "a:8..12 b:10..11"),
+    (2, 11, "a:8..12 b:10..12"),
+    (1, 20, "a:8..12 a:20..21 b:10..12"),
+];
+
+fn version_of(member: u64, version: u64) -> Gvsn {
+    Gvsn {
+        db: database_of(member),
+        version,
+    }
+}
+
+fn try_adding(rt: &impl Abort, alloc: Global, all: &mut Vector) -> Result<(), Fail> {
+    for (member, version, want) in ADDED {
+        all.add(alloc, version_of(member, version))?;
+        assert!(rt; is_of(alloc, all, want)?, "with {version}");
+    }
+    Ok(())
+}
+
 #[test]
 fn versions_are_added_and_joined(rt: HostRuntime) -> Result<(), Fail> {
-    let alloc = rt.alloc();
     let mut all = Vector::empty();
-    let mut grown = GrowingVector::empty();
-    for (member, version, want) in [
-        (1, 9, "a:9..10"),
-        (1, 11, "a:9..10 a:11..12"),
-        (2, 10, "a:9..10 a:11..12 b:10..11"),
-        (1, 10, "a:9..12 b:10..11"),
-        (1, 8, "a:8..12 b:10..11"),
-        (1, 10, "a:8..12 b:10..11"),
-        (2, 11, "a:8..12 b:10..12"),
-        (1, 20, "a:8..12 a:20..21 b:10..12"),
-    ] {
-        let db = database_of(member);
-        let g = Gvsn { db, version };
-        all.add(alloc, g)?;
+    try_adding(&rt, rt.alloc(), &mut all)
+}
+
+/// Whether a copy of a set that grows is of just these intervals.
+fn is_copied_as(alloc: Global, grown: &GrowingVector, text: &str) -> Result<bool, Fail> {
+    let copy = grown.copy(alloc)?;
+    is_of(alloc, &copy, text)
+}
+
+fn try_growing(rt: &impl Abort, alloc: Global, grown: &mut GrowingVector) -> Result<(), Fail> {
+    for (member, version, want) in ADDED {
+        let g = version_of(member, version);
         grown.reserve(alloc, g)?;
         grown.cover(g);
-        assert!(rt; is_of(alloc, &all, want)?, "with {version}");
-        assert!(rt;
-            is_of(alloc, &grown.copy(alloc)?, want)?,
-            "grown by {version}"
-        );
+        assert!(rt; is_copied_as(alloc, grown, want)?, "with {version}");
     }
-    let more = grown.merged(alloc, &vector(alloc, "a:12..20 b:3..5")?)?;
-    assert!(rt; is_of(alloc, &more.copy(alloc)?, "a:8..21 b:3..5 b:10..12")?);
-    assert!(rt;
-        more.covers(Gvsn {
-            db: database_of(2),
-            version: 4
-        })
-    );
-    assert!(rt;
-        !grown.covers(Gvsn {
-            db: database_of(2),
-            version: 4
-        })
-    );
+    assert!(rt; !grown.covers(version_of(2, 4)));
     Ok(())
+}
+
+/// What a set that grew is with the versions of another.
+fn merged_with(alloc: Global, grown: &GrowingVector, text: &str) -> Result<GrowingVector, Fail> {
+    let other = vector(alloc, text)?;
+    Ok(grown.merged(alloc, &other)?)
+}
+
+fn try_merged(rt: &impl Abort, alloc: Global, more: &GrowingVector) -> Result<(), Fail> {
+    assert!(rt; more.covers(version_of(2, 4)));
+    assert!(rt; is_copied_as(alloc, more, "a:8..21 b:3..5 b:10..12")?);
+    Ok(())
+}
+
+fn try_merging(rt: &impl Abort, alloc: Global, grown: &mut GrowingVector) -> Result<(), Fail> {
+    try_growing(rt, alloc, grown)?;
+    let more = merged_with(alloc, grown, "a:12..20 b:3..5")?;
+    try_merged(rt, alloc, &more)
+}
+
+#[test]
+fn versions_are_covered_in_their_place(rt: HostRuntime) -> Result<(), Fail> {
+    let mut grown = GrowingVector::empty();
+    try_merging(&rt, rt.alloc(), &mut grown)
 }
