@@ -120,7 +120,7 @@ fn vectors(rt: HostRuntime) -> Result<(), Fail> {
 // much longer.
 
 /// Versions that are added one after the other, and the set after each.
-const ADDED: [(u64, u64, &str); 8] = [
+const ADDED: [(u64, u32, &str); 8] = [
     (1, 9, "a:9..10"),
     (1, 11, "a:9..10 a:11..12"),
     (2, 10, "a:9..10 a:11..12 b:10..11"),
@@ -140,7 +140,9 @@ fn version_of(member: u64, version: u64) -> Gvsn {
 
 fn try_adding(rt: &impl Abort, alloc: Global, all: &mut Vector) -> Result<(), Fail> {
     for (member, version, want) in ADDED {
-        all.add(alloc, version_of(member, version))?;
+        let db = database_of(member);
+        let version = u64::from(version);
+        all.add(alloc, Gvsn { db, version })?;
         assert!(rt; is_of(alloc, all, want)?, "with {version}");
     }
     Ok(())
@@ -160,7 +162,9 @@ fn is_copied_as(alloc: Global, grown: &GrowingVector, text: &str) -> Result<bool
 
 fn try_growing(rt: &impl Abort, alloc: Global, grown: &mut GrowingVector) -> Result<(), Fail> {
     for (member, version, want) in ADDED {
-        let g = version_of(member, version);
+        let db = database_of(member);
+        let version = u64::from(version);
+        let g = Gvsn { db, version };
         grown.reserve(alloc, g)?;
         grown.cover(g);
         assert!(rt; is_copied_as(alloc, grown, want)?, "with {version}");
