@@ -3,11 +3,11 @@ use Rattle.std.proofs.Common.{◌≡◌, ◌≤◌, ◌<◌, ℕ, ◌+◌, ◌-�
 use Rattle.std.proofs.lemmas.List.{get_or-take, get_or-drop, length-take-le, ext_get_or}
 use Rattle.frs_disk.specs.Crashes.{still, wrote, cut_to, IsImage, IsTorn}
 
-before_torn : (at n k : ℕ) → k < at → IsTorn ((at, n) ∷ []) k → ⊥
+pub before_torn : (at n k : ℕ) → k < at → IsTorn ((at, n) ∷ []) k → ⊥
 before_torn at n k lt (inl r) = absurd (omega (arith, lt, r.0))
 before_torn at n k lt (inr none) = none
 
-after_torn : (at n k : ℕ) → at + n ≤ k → IsTorn ((at, n) ∷ []) k → ⊥
+pub after_torn : (at n k : ℕ) → at + n ≤ k → IsTorn ((at, n) ∷ []) k → ⊥
 after_torn at n k le (inl r) = absurd (omega (arith, le, r.1))
 after_torn at n k le (inr none) = none
 

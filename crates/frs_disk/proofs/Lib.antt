@@ -7,3 +7,4 @@ pub mod Keeping
 pub mod Losing
 pub mod Words
 pub mod Walks
+pub mod SmallDisks

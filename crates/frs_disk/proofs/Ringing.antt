@@ -1,7 +1,7 @@
 -- Calls one after the other, as an alarm counts them.
 use Rattle.std.proofs.Common.{◌≡◌, ◌≤◌, ◌+◌, ◌-◌, ℕ, refl, sym, ap, ◌∙◌, subst, inl, inr, arith, Option, Some, None}
 use Rattle.std.specs.Prelude.{IfSome}
-use Rattle.frs_disk.specs.Alarms.{Alarm, Armed, Rose, raised, less, Passes, Fails, FailsAt}
+use Rattle.frs_disk.specs.Alarms.{Alarm, Armed, Rose, raised, less, Passes, PassesSome, Fails, FailsAt, FailsSome}
 
 less_less : (m n : ℕ) (o : Option Armed) → less n (less m o) ≡ less (m + n) o
 less_less m n None = refl
@@ -40,6 +40,23 @@ passes_none a = record { before = before_none a.armed; now = ap (λ (o : Option 
 -- the first call failed
 pub fails_first : (a b : Alarm) → Fails a b → FailsAt 0 a b
 fails_first a b h = (a, passes_none a, h)
+
+-- where nothing was done, no call failed
+pub passes_same : (a b : Alarm) → b ≡ a → PassesSome a b
+passes_same a b same = let P : Alarm → Type 0 = λ x. PassesSome a x in subst P (sym same) (0, passes_none a)
+
+pub passes_from : (n : ℕ) (a b c : Alarm) → b ≡ a → Passes n b c → Passes n a c
+passes_from n a b c same h = let P : Alarm → Type 0 = λ x. Passes n x c in subst P same h
+
+-- some calls, and then more
+pub passes_some : (a b c : Alarm) → PassesSome a b → PassesSome b c → PassesSome a c
+passes_some a b c (m, h) (n, k) = (m + n, passes_on m n a b c h k)
+
+pub fails_some : (a b c : Alarm) → PassesSome a b → FailsSome b c → FailsSome a c
+fails_some a b c (m, h) (n, k) = (m + n, fails_on m n a b c h k)
+
+pub fails_now : (a b : Alarm) → Fails a b → FailsSome a b
+fails_now a b h = (0, fails_first a b h)
 
 -- where calls pass, no count moves
 pub passes_faults : (n : ℕ) (a b : Alarm) → Passes n a b → b.faults ≡ a.faults

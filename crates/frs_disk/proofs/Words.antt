@@ -2,7 +2,7 @@
 use Rattle.std.proofs.Common.{◌≡◌, ◌≤◌, ◌-◌, true, ℕ, List, [], ◌∷◌, sym, ap, ◌∙◌, subst, inl, inr, arith, Option, Some, None}
 use Rattle.std.proofs.lemmas.Bool.{false≢true}
 use Rattle.std.specs.Prelude.{IfSome}
-use Rattle.frs_disk.specs.Alarms.{Alarm, Armed, Effect, Fails, FailsAt, LeftAt, LeftByArmed, Passes, changes, less, syncs}
+use Rattle.frs_disk.specs.Alarms.{Alarm, Armed, Fails, FailsAt, LeftAt, LeftByArmed, Passes, changes, less, syncs}
 use Rattle.frs_disk.specs.Crashes.{Crash, lost, synced}
 use Rattle.frs_disk.specs.Moments.{pushed}
 use Rattle.frs_disk.specs.declared.image.Image.{Image}

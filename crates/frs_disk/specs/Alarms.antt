@@ -83,6 +83,14 @@ Fails old new = Rings old new ⊎ Breaks old new
 abbrev pub FailsAt : ℕ → Alarm → Alarm → Type 0
 FailsAt n old new = (mid : Alarm) × Passes n old mid × Fails mid new
 
+-- some calls were made, and none failed
+abbrev pub PassesSome : Alarm → Alarm → Type 0
+PassesSome old new = (n : ℕ) × Passes n old new
+
+-- some calls were made, and the last one failed
+abbrev pub FailsSome : Alarm → Alarm → Type 0
+FailsSome old new = (n : ℕ) × FailsAt n old new
+
 -- what a call does that a script may arm
 abbrev pub Ticks : {T E : Type 0} → Result T E → Alarm → Alarm → Type 0
 Ticks result old new = MatchResult result (λ _. Passes 1 old new) (λ _. Fails old new)

@@ -10,3 +10,5 @@ pub mod Changes
 pub mod Memory
 pub mod Reached
 pub mod Racks
+pub mod Errors
+pub mod SmallDisks

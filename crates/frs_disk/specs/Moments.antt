@@ -53,11 +53,16 @@ abbrev pub Stops : (Crash → Crash) → Option (List Crash) → Option (List Cr
 Stops change None new = new ≡ None
 Stops change (Some ss) new = Goes (Within (change (top ss))) (Some ss) new
 
--- a state at some moment since: the newest of the old ones, or one that came
+-- the newest state
+abbrev pub IsNewest : Option (List Crash) → Crash → Type 0
+IsNewest None s = ⊥
+IsNewest (Some ss) s = s ≡ top ss
+
+-- a state at some moment since: the newest of the old ones, one that came, or the newest now
 abbrev pub IsMoment : Option (List Crash) → Option (List Crash) → Crash → Type 0
 IsMoment None new s = ⊥
 IsMoment (Some ss) new s =
-    (s ≡ top ss) ⊎ ((later : List Crash) × (sooner : List Crash) × (new ≡ Some ((later ++ s ∷ sooner) ++ ss)))
+    (s ≡ top ss) ⊎ (((later : List Crash) × (sooner : List Crash) × (new ≡ Some ((later ++ s ∷ sooner) ++ ss))) ⊎ IsNewest new s)
 
 -- a crash now may leave this
 abbrev pub MayLeave : Option (List Crash) → List ℕ → Type 0

@@ -4,7 +4,6 @@ use Rattle.frs_disk.specs.Alarms.{Alarm, Passes, Rings}
 use Rattle.frs_disk.specs.declared.script.Reached.{Reached}
 use Rattle.frs_disk.specs.declared.script.Reached.TheVariants.{Passed, Failed, Stopped}
 
--- the image that a reached call leaves
 -- what a call does to the alarm, by what it came to
 abbrev pub Reaches : Reached → Alarm → Alarm → Type 0
 Reaches Passed old new = Passes 1 old new

@@ -17,6 +17,10 @@ use std::fmt;
 pub struct Failed;
 
 impl fmt::Display for Failed {
+    ghost use Rattle.frs_disk.specs.Errors.{failed_text};
+
+    ghost output = { λ _. Some failed_text };
+
     fn fmt<W: fmt::Write>(&self, f: &mut fmt::Formatter<W>) -> fmt::Result {
         write!(f, "the disk failed")
     }
@@ -48,8 +52,10 @@ pub trait FrsDisk: Drop {
 
     /// Its length, in bytes.
     fn length(&mut self) -> Result<u64, Failed>
-        ensures value { IfOk result (λ n. IfSome (states self.old) (λ ss. n ≡ length (seen_now ss))) }
-        ensures blank { IfOk result (λ n. (start self.old).blank ≡ true → (start self.old).changed ≡ false → n ≡ 0) }
+        ensures value { IfOk result (λ n. IfSome (states self.old)
+            (λ ss. n ≡ length (seen_now ss))) }
+        ensures blank { IfOk result (λ n. (start self.old).blank ≡ true
+            → (start self.old).changed ≡ false → n ≡ 0) }
         ensures states { states self.new ≡ states self.old }
         ensures alarm { Counts result (alarm self.old) (alarm self.new) }
         ensures start { MatchResult result
@@ -65,7 +71,8 @@ pub trait FrsDisk: Drop {
     /// Reads the bytes from a place on, as many as the buffer takes.
     fn read(&mut self, at: u64, buf: &mut [u8]) -> Result<(), Failed>
         requires { IfSome (states self.old) (λ ss. at + length buf.old ≤ length (seen_now ss)) }
-        ensures bytes { OnOk result (IfSome (states self.old) (λ ss. buf.new ≡ take (length buf.old) (drop at (seen_now ss)))) }
+        ensures bytes { OnOk result (IfSome (states self.old)
+            (λ ss. buf.new ≡ take (length buf.old) (drop at (seen_now ss)))) }
         ensures states { states self.new ≡ states self.old }
         ensures alarm { Counts result (alarm self.old) (alarm self.new) }
         ensures start { start self.new ≡ start self.old }
@@ -75,10 +82,13 @@ pub trait FrsDisk: Drop {
     /// Reads bytes that begin with this head and have this SHA-1 sum. A disk that gives back
     /// others counts a fault.
     fn read_sum(&mut self, at: u64, buf: &mut [u8], head: &[u8], sum: &Sum) -> Result<(), Failed>
-        requires within { IfSome (states self.old) (λ ss. at + length buf.old ≤ length (seen_now ss)) }
-        requires told { IfSome (states self.old) (λ ss. HasSum head.now sum.now.0 (take (length buf.old) (drop at (seen_now ss)))) }
+        requires within { IfSome (states self.old)
+            (λ ss. at + length buf.old ≤ length (seen_now ss)) }
+        requires told { IfSome (states self.old)
+            (λ ss. HasSum head.now sum.now.0 (take (length buf.old) (drop at (seen_now ss)))) }
         ensures sum { OnOk result (HasSum head.now sum.now.0 buf.new) }
-        ensures bytes { OnOk result (IfSome (states self.old) (λ ss. buf.new ≡ take (length buf.old) (drop at (seen_now ss)))) }
+        ensures bytes { OnOk result (IfSome (states self.old)
+            (λ ss. buf.new ≡ take (length buf.old) (drop at (seen_now ss)))) }
         ensures states { states self.new ≡ states self.old }
         ensures alarm { Counts result (alarm self.old) (alarm self.new) }
         ensures start { start self.new ≡ start self.old }
@@ -92,9 +102,12 @@ pub trait FrsDisk: Drop {
         requires bytes { length bytes.now ≤ spare_bytes self.old }
         ensures stood { Now Stands (states self.old) }
         ensures stands { Now Stands (states self.new) }
-        ensures done { OnOk result (states self.new ≡ pushed (wrote at bytes.now) (states self.old)) }
-        ensures failed { OnErr result (Stops (wrote at bytes.now) (states self.old) (states self.new)) }
-        ensures word { LeavesWord result (wrote at bytes.now) (alarm self.old) (states self.old) (states self.new) }
+        ensures done { OnOk result
+            (states self.new ≡ pushed (wrote at bytes.now) (states self.old)) }
+        ensures failed { OnErr result
+            (Stops (wrote at bytes.now) (states self.old) (states self.new)) }
+        ensures word { LeavesWord result (wrote at bytes.now)
+            (alarm self.old) (states self.old) (states self.new) }
         ensures alarm { Ticks result (alarm self.old) (alarm self.new) }
         ensures start { start self.new ≡ touched (start self.old) }
         ensures calls { spare_calls self.old ≤ spare_calls self.new + 1 }
@@ -102,13 +115,15 @@ pub trait FrsDisk: Drop {
 
     /// Cuts it to this length.
     fn cut(&mut self, length: u64) -> Result<(), Failed>
-        requires within { IfSome (states self.old) (λ ss. length ≤ Rattle.std.specs.Prelude.length (seen_now ss)) }
+        requires within { IfSome (states self.old)
+            (λ ss. length ≤ Rattle.std.specs.Prelude.length (seen_now ss)) }
         requires calls { 0 < spare_calls self.old }
         ensures stood { Now Stands (states self.old) }
         ensures stands { Now Stands (states self.new) }
         ensures done { OnOk result (states self.new ≡ pushed (cut_to length) (states self.old)) }
         ensures failed { OnErr result (Stops (cut_to length) (states self.old) (states self.new)) }
-        ensures word { LeavesWord result (cut_to length) (alarm self.old) (states self.old) (states self.new) }
+        ensures word { LeavesWord result (cut_to length)
+            (alarm self.old) (states self.old) (states self.new) }
         ensures alarm { Ticks result (alarm self.old) (alarm self.new) }
         ensures start { start self.new ≡ touched (start self.old) }
         ensures calls { spare_calls self.old ≤ spare_calls self.new + 1 }

@@ -1,5 +1,5 @@
 // The contents of a disk in memory, with the states that it went through.
-ghost use Rattle.std.specs.Prelude.{◌≡◌, ◌≤◌, ◌<◌, ◌+◌, ◌++◌, ◌∷◌, [], length, take, drop, min, max, vec_len, vec_capacity, OnOk, if◌then◌else◌};
+ghost use Rattle.std.specs.Prelude.{◌≡◌, ◌≤◌, ◌+◌, ◌++◌, ◌∷◌, [], length, take, min, max, vec_len, vec_capacity, OnOk, if◌then◌else◌};
 ghost use Rattle.frs_disk.specs.Changes.{lost_if};
 ghost use Rattle.frs_disk.specs.Crashes.{Stands, still, patch, wrote, cut_to, synced, lost};
 ghost use Rattle.frs_disk.specs.Moments.{push, seen_now, top};
@@ -8,21 +8,22 @@ use crate::trace::{Change, Trace};
 use std::alloc::{AllocError, Global};
 use std::marker::Model;
 
-/// The contents of a disk in memory: what a read gives, and what the last sync made sure of.
-/// Contracts see the states that it went through, and for how many bytes there is room.
+/// The contents of a disk in memory: what a read gives, and what the last sync made sure of where
+/// that differs. Contracts see the states that it went through, and for how many bytes there is
+/// room.
 #[derive(Drop)]
 pub struct History {
     /// What a read gives.
     bytes: Vec<u8>,
-    /// What the last sync made sure of.
-    safe: Vec<u8>,
-    /// How many first bytes these two have in common, at least.
+    /// How many of these, from the front, are as the last sync left them.
     clean: usize,
+    /// What the last sync made sure of behind them.
+    behind: Vec<u8>,
     trace: Trace,
 }
 
 impl Model for History {
-    ghost use Rattle.std.specs.Prelude.{◌≤◌, ◌-◌, min, max, vec_len, vec_capacity};
+    ghost use Rattle.std.specs.Prelude.{◌≤◌, ◌+◌, ◌-◌, min, max, vec_len, vec_capacity};
     ghost use Rattle.frs_disk.specs.Histories.{HistoryState};
     ghost use Rattle.frs_disk.specs.History.{IsKept};
 
@@ -30,11 +31,13 @@ impl Model for History {
 
     ghost view = { λ h. record {
       states = h.trace.states;
-      spare_bytes = min (vec_capacity h.bytes) (vec_capacity h.safe) - max (vec_len h.bytes) (vec_len h.safe);
+      spare_bytes = min (vec_capacity h.bytes) (vec_capacity h.behind)
+          - max (vec_len h.bytes) (h.clean + vec_len h.behind);
     } };
 
-    ghost invariant = { λ h. IsKept h.bytes.items h.safe.items h.clean h.trace.states
-        × (max (vec_len h.bytes) (vec_len h.safe) ≤ min (vec_capacity h.bytes) (vec_capacity h.safe)) };
+    ghost invariant = { λ h. IsKept h.bytes.items h.clean h.behind.items h.trace.states
+        × (max (vec_len h.bytes) (h.clean + vec_len h.behind)
+        ≤ min (vec_capacity h.bytes) (vec_capacity h.behind)) };
 }
 
 /// Puts bytes over what is there and past the end, with room that is there.
@@ -43,6 +46,7 @@ fn put(bytes: &mut Vec<u8>, at: usize, new: &[u8])
     requires room { vec_len bytes.old + length new.now ≤ vec_capacity bytes.old }
     ensures bytes { bytes.new.items ≡ patch at new.now bytes.old.items }
     ensures capacity { vec_capacity bytes.old ≤ vec_capacity bytes.new }
+    ensures shorter { vec_len bytes.old ≤ vec_len bytes.new }
     ensures longer { vec_len bytes.new ≤ vec_len bytes.old + length new.now }
 {
     let over = new.len().min(bytes.len() - at);
@@ -62,29 +66,58 @@ fn append(pool: &mut Vec<u8>, new: &[u8])
     };
 }
 
-/// Makes bytes those of the source, with which they have so many first bytes in common.
-fn follow(bytes: &mut Vec<u8>, source: &[u8], same: usize)
-    requires within { same ≤ length source.now }
-    requires same { take same bytes.old.items ≡ take same source.now }
-    requires room { length source.now ≤ vec_capacity bytes.old }
-    ensures items { bytes.new.items ≡ source.now }
-    ensures capacity { vec_capacity bytes.old ≤ vec_capacity bytes.new }
+/// Puts bytes before the others, with room that is there.
+fn prepend(pool: &mut Vec<u8>, new: &[u8])
+    requires { vec_len pool.old + length new.now ≤ vec_capacity pool.old }
+    ensures items { pool.new.items ≡ new.now ++ pool.old.items }
+    ensures len { vec_len pool.new ≡ vec_len pool.old + length new.now }
+    ensures capacity { vec_capacity pool.old ≤ vec_capacity pool.new }
 {
-    bytes.truncate(same);
-    append(bytes, &source[same..]);
+    append(pool, new);
+    pool.rotate_right(new.len());
 }
 
-/// Makes bytes those of the source where they are lost.
-fn follow_if(bytes: &mut Vec<u8>, source: &[u8], same: usize, lost: bool)
-    requires within { same ≤ length source.now }
-    requires same { take same bytes.old.items ≡ take same source.now }
-    requires room { length source.now ≤ vec_capacity bytes.old }
-    ensures items { bytes.new.items ≡ (if lost then source.now else bytes.old.items) }
-    ensures longest { vec_len bytes.new ≤ max (vec_len bytes.old) (length source.now) }
+/// Sets aside what the last sync made sure of from a place on, which is about to change, and says
+/// how many first bytes are still as it left them.
+fn set_aside(bytes: &[u8], clean: usize, behind: &mut Vec<u8>, at: usize) -> usize
+    requires within { clean ≤ length bytes.now }
+    requires room { clean + vec_len behind.old ≤ vec_capacity behind.old }
+    ensures clean { result ≡ min clean at }
+    ensures safe { take result bytes.now ++ behind.new.items
+        ≡ take clean bytes.now ++ behind.old.items }
+    ensures size { result + vec_len behind.new ≡ clean + vec_len behind.old }
+    ensures capacity { vec_capacity behind.old ≤ vec_capacity behind.new }
+{
+    if clean <= at {
+        return clean;
+    }
+    prepend(behind, &bytes[at..clean]);
+    at
+}
+
+/// Brings back what the last sync made sure of: so many first bytes, and these behind them.
+fn bring_back(bytes: &mut Vec<u8>, clean: usize, behind: &[u8])
+    requires within { clean ≤ vec_len bytes.old }
+    requires room { clean + length behind.now ≤ vec_capacity bytes.old }
+    ensures items { bytes.new.items ≡ take clean bytes.old.items ++ behind.now }
+    ensures len { vec_len bytes.new ≡ clean + length behind.now }
+    ensures capacity { vec_capacity bytes.old ≤ vec_capacity bytes.new }
+{
+    bytes.truncate(clean);
+    append(bytes, behind);
+}
+
+/// Brings it back where what was done since is lost.
+fn bring_back_if(bytes: &mut Vec<u8>, clean: usize, behind: &[u8], lost: bool)
+    requires within { clean ≤ vec_len bytes.old }
+    requires room { clean + length behind.now ≤ vec_capacity bytes.old }
+    ensures items { bytes.new.items
+        ≡ (if lost then take clean bytes.old.items ++ behind.now else bytes.old.items) }
+    ensures longest { vec_len bytes.new ≤ max (vec_len bytes.old) (clean + length behind.now) }
     ensures capacity { vec_capacity bytes.old ≤ vec_capacity bytes.new }
 {
     if lost {
-        follow(bytes, source, same);
+        bring_back(bytes, clean, behind);
     }
 }
 
@@ -96,8 +129,8 @@ impl History {
     {
         History {
             bytes: Vec::new(alloc),
-            safe: Vec::new(alloc),
             clean: 0,
+            behind: Vec::new(alloc),
             trace: Trace::new(),
         }
     }
@@ -114,11 +147,11 @@ impl History {
         ensures states { self.new.states ≡ self.old.states }
         ensures bytes { OnOk result (bytes ≤ self.new.spare_bytes) }
     {
-        let longest = self.bytes.len().max(self.safe.len());
+        let longest = self.bytes.len().max(self.clean + self.behind.len());
         self.bytes
             .reserve((longest - self.bytes.len()).saturating_add(bytes))?;
-        self.safe
-            .reserve((longest - self.safe.len()).saturating_add(bytes))?;
+        self.behind
+            .reserve((longest - self.behind.len()).saturating_add(bytes))?;
         Ok(())
     }
 
@@ -127,17 +160,13 @@ impl History {
         requires within { at ≤ length (seen_now self.old.states) }
         requires bytes { length bytes.now ≤ self.old.spare_bytes }
         ensures stands { Stands (top self.new.states) }
-        ensures states { self.new.states ≡ push (λ s. lost_if lost (wrote at bytes.now s)) self.old.states }
+        ensures states { self.new.states
+            ≡ push (λ s. lost_if lost (wrote at bytes.now s)) self.old.states }
         ensures bytes { self.old.spare_bytes ≤ self.new.spare_bytes + length bytes.now }
     {
+        self.clean = set_aside(self.bytes.as_slice(), self.clean, &mut self.behind, at);
         put(&mut self.bytes, at, bytes);
-        follow_if(
-            &mut self.bytes,
-            self.safe.as_slice(),
-            self.clean.min(at),
-            lost,
-        );
-        self.clean = self.clean.min(at);
+        bring_back_if(&mut self.bytes, self.clean, self.behind.as_slice(), lost);
         self.trace = self.trace.then(&Change::Write { at, bytes, lost });
     }
 
@@ -145,17 +174,13 @@ impl History {
     pub fn cut(&mut self, length: usize, lost: bool)
         requires within { length ≤ Rattle.std.specs.Prelude.length (seen_now self.old.states) }
         ensures stands { Stands (top self.new.states) }
-        ensures states { self.new.states ≡ push (λ s. lost_if lost (cut_to length s)) self.old.states }
+        ensures states { self.new.states
+            ≡ push (λ s. lost_if lost (cut_to length s)) self.old.states }
         ensures bytes { self.old.spare_bytes ≤ self.new.spare_bytes }
     {
+        self.clean = set_aside(self.bytes.as_slice(), self.clean, &mut self.behind, length);
         self.bytes.truncate(length);
-        follow_if(
-            &mut self.bytes,
-            self.safe.as_slice(),
-            self.clean.min(length),
-            lost,
-        );
-        self.clean = self.clean.min(length);
+        bring_back_if(&mut self.bytes, self.clean, self.behind.as_slice(), lost);
         self.trace = self.trace.then(&Change::Cut { length, lost });
     }
 
@@ -165,7 +190,7 @@ impl History {
         ensures states { self.new.states ≡ push synced self.old.states }
         ensures bytes { self.old.spare_bytes ≤ self.new.spare_bytes }
     {
-        follow(&mut self.safe, self.bytes.as_slice(), self.clean);
+        self.behind.clear();
         self.clean = self.bytes.len();
         self.trace = self.trace.then(&Change::Sync { lost: false });
     }
@@ -176,8 +201,7 @@ impl History {
         ensures states { self.new.states ≡ push lost self.old.states }
         ensures bytes { self.old.spare_bytes ≤ self.new.spare_bytes }
     {
-        follow(&mut self.bytes, self.safe.as_slice(), self.clean);
-        self.clean = self.bytes.len();
+        bring_back(&mut self.bytes, self.clean, self.behind.as_slice());
         self.trace = self.trace.then(&Change::Sync { lost: true });
     }
 

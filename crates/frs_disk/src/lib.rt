@@ -9,6 +9,7 @@
 mod disk;
 mod history;
 mod image;
+mod laws;
 mod memory;
 mod memory_rack;
 mod rack;
@@ -21,6 +22,10 @@ mod trace;
 
 pub use disk::{Failed, FrsDisk};
 pub use image::Image;
+pub use laws::{
+    a_cut_may_be_undone, a_new_byte_may_be_missing, a_written_byte_may_be_any,
+    the_present_is_a_moment, what_is_synced_stays,
+};
 pub use memory::MemDisk;
 pub use memory_rack::MemRack;
 pub use rack::{DiskSet, Rack, RackError};

@@ -42,7 +42,8 @@ impl Model for MemDisk {
       spare_bytes = d.history.spare_bytes;
     } };
 
-    ghost invariant = { λ d. (d.changed ≡ false → (seen_now d.history.states ≡ []) × ((top d.history.states).safe ≡ []))
+    ghost invariant = { λ d. (d.changed ≡ false
+        → (seen_now d.history.states ≡ []) × ((top d.history.states).safe ≡ []))
         × (d.script.was_armed ≡ false → (d.script.armed ≡ None) × (d.script.faults ≡ 0))
         × Stands (top d.history.states) };
 }
@@ -52,7 +53,8 @@ impl MemDisk {
     pub fn new(alloc: Global) -> MemDisk
         ensures states { result.states ≡ still [] ∷ [] }
         ensures alarm { IsSilent result.alarm }
-        ensures kind { (result.alarm.can_crash ≡ true) × (result.alarm.quiet ≡ true) × (result.alarm.exact ≡ true) }
+        ensures kind { (result.alarm.can_crash ≡ true) × (result.alarm.quiet ≡ true)
+            × (result.alarm.exact ≡ true) }
         ensures start { result.start ≡ untouched true }
     {
         MemDisk {

@@ -45,7 +45,13 @@ impl Rack for MemRack {
 
     type Disk = MemDisk;
 
-    ghost kind = { λ _. record { tells = true; can_crash = true; quiet = true; exact = true; blank = true } };
+    ghost kind = { λ _. record {
+      tells = true;
+      can_crash = true;
+      quiet = true;
+      exact = true;
+      blank = true;
+    } };
 
     ghost faults = { λ rack. rack.faults };
 

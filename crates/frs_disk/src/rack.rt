@@ -29,12 +29,21 @@ pub enum RackError {
 }
 
 impl From<AllocError> for RackError {
+    ghost use Rattle.frs_disk.specs.declared.rack.RackError.TheVariants as errors;
+
+    ghost from_gives = { λ _ error. error ≡ errors.Memory };
+
     fn from(_error: AllocError) -> RackError {
         RackError::Memory
     }
 }
 
 impl fmt::Display for RackError {
+    ghost use Rattle.std.specs.Prelude.{Some};
+    ghost use Rattle.frs_disk.specs.Errors.{rack_error_text};
+
+    ghost output = { λ error. Some (rack_error_text error) };
+
     fn fmt<W: fmt::Write>(&self, f: &mut fmt::Formatter<W>) -> fmt::Result {
         match self {
             RackError::Failed => write!(f, "the rack failed"),
@@ -62,8 +71,10 @@ pub trait Rack {
     /// Makes the disks of a member, by its number.
     fn make(&mut self, alloc: Global, member: u32) -> Result<DiskSet<Self::Disk>, RackError>
         ensures disks { IfOk result (λ disks. OfEach
-            (λ disk. IsMade (kind self.old) (Self.Disk.FrsDisk.states disk) (Self.Disk.FrsDisk.alarm disk) (Self.Disk.FrsDisk.start disk)) disks) }
-        ensures failed { IsErrOf result RackError.Failed → Rose (faults self.old) (faults self.new) }
+            (λ disk. IsMade (kind self.old) (Self.Disk.FrsDisk.states disk)
+            (Self.Disk.FrsDisk.alarm disk) (Self.Disk.FrsDisk.start disk)) disks) }
+        ensures failed { IsErrOf result RackError.Failed
+            → Rose (faults self.old) (faults self.new) }
         ensures quiet { IsErrOf result RackError.Failed → (kind self.old).quiet ≡ false }
         ensures later { faults self.old ≤ faults self.new }
         ensures found { found self.new ≡ found self.old }
@@ -71,7 +82,9 @@ pub trait Rack {
 
     /// Takes a disk back, and takes no memory.
     fn back(&mut self, disk: Self::Disk)
-        ensures faults { faults self.new ≡ raised_if (not (nat_eq (Self.Disk.FrsDisk.alarm disk).unarmed 0)) (faults self.old) }
-        ensures found { found self.new ≡ raised_if (Self.Disk.FrsDisk.start disk).found (found self.old) }
+        ensures faults { faults self.new
+            ≡ raised_if (not (nat_eq (Self.Disk.FrsDisk.alarm disk).unarmed 0)) (faults self.old) }
+        ensures found { found self.new
+            ≡ raised_if (Self.Disk.FrsDisk.start disk).found (found self.old) }
         ensures kind { kind self.new ≡ kind self.old };
 }

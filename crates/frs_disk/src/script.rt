@@ -39,7 +39,8 @@ pub enum Reached {
 impl Script {
     /// Nothing is armed.
     pub fn new() -> Script
-        ensures { (result.armed ≡ None) × (result.stopped ≡ false) × (result.faults ≡ 0) × (result.was_armed ≡ false) }
+        ensures { (result.armed ≡ None) × (result.stopped ≡ false) × (result.faults ≡ 0)
+            × (result.was_armed ≡ false) }
     {
         Script {
             armed: None,
@@ -53,7 +54,8 @@ impl Script {
     pub fn tick(&mut self) -> Reached
         ensures reached { Reaches result (alarm_of self.old) (alarm_of self.new) }
         ensures was_armed { self.new.was_armed ≡ self.old.was_armed }
-        ensures idle { self.old.armed ≡ None → (self.new.armed ≡ None) × (self.new.faults ≡ self.old.faults) }
+        ensures idle { self.old.armed ≡ None
+            → (self.new.armed ≡ None) × (self.new.faults ≡ self.old.faults) }
     {
         let Some(armed) = self.armed else {
             return Reached::Passed;

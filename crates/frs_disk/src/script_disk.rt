@@ -18,7 +18,8 @@ pub trait ScriptDisk: FrsDisk {
         requires { 0 < call }
         ensures can { result ≡ (Self.FrsDisk.alarm self.old).can_crash }
         ensures tells { IsTrue result → Tells (Self.FrsDisk.states self.old) }
-        ensures alarm { Self.FrsDisk.alarm self.new ≡ armed_if result call (Some image) (Self.FrsDisk.alarm self.old) }
+        ensures alarm { Self.FrsDisk.alarm self.new
+            ≡ armed_if result call (Some image) (Self.FrsDisk.alarm self.old) }
         ensures states { Self.FrsDisk.states self.new ≡ Self.FrsDisk.states self.old }
         ensures start { Self.FrsDisk.start self.new ≡ Self.FrsDisk.start self.old }
         ensures calls { Self.FrsDisk.spare_calls self.new ≡ Self.FrsDisk.spare_calls self.old }
@@ -29,7 +30,8 @@ pub trait ScriptDisk: FrsDisk {
         requires { 0 < call }
         ensures can { result ≡ (Self.FrsDisk.alarm self.old).can_crash }
         ensures tells { IsTrue result → Tells (Self.FrsDisk.states self.old) }
-        ensures alarm { Self.FrsDisk.alarm self.new ≡ armed_if result call None (Self.FrsDisk.alarm self.old) }
+        ensures alarm { Self.FrsDisk.alarm self.new
+            ≡ armed_if result call None (Self.FrsDisk.alarm self.old) }
         ensures states { Self.FrsDisk.states self.new ≡ Self.FrsDisk.states self.old }
         ensures start { Self.FrsDisk.start self.new ≡ Self.FrsDisk.start self.old }
         ensures calls { Self.FrsDisk.spare_calls self.new ≡ Self.FrsDisk.spare_calls self.old }
@@ -51,16 +53,23 @@ pub trait ScriptDisk: FrsDisk {
     /// sure of. A disk on which a stop leaves just what was armed then holds what a read gave.
     fn crash(&mut self) -> bool
         ensures can { result ≡ (Self.FrsDisk.alarm self.old).can_crash }
-        ensures crashed { IsTrue result → (image : List ℕ) × MayLeave (Self.FrsDisk.states self.old) image
+        ensures crashed { IsTrue result → (image : List ℕ)
+            × MayLeave (Self.FrsDisk.states self.old) image
             × (Self.FrsDisk.states self.new ≡ Some (still image ∷ [])) }
         ensures read { IsTrue result → (Self.FrsDisk.alarm self.old).exact ≡ true
             → Self.FrsDisk.states self.new ≡ reread (Self.FrsDisk.states self.old) }
-        ensures same { result ≡ false → Self.FrsDisk.states self.new ≡ Self.FrsDisk.states self.old }
+        ensures same { result ≡ false
+            → Self.FrsDisk.states self.new ≡ Self.FrsDisk.states self.old }
+        ensures calls { result ≡ false
+            → Self.FrsDisk.spare_calls self.new ≡ Self.FrsDisk.spare_calls self.old }
+        ensures bytes { result ≡ false
+            → Self.FrsDisk.spare_bytes self.new ≡ Self.FrsDisk.spare_bytes self.old }
         ensures alarm { Self.FrsDisk.alarm self.new ≡ Self.FrsDisk.alarm self.old }
         ensures start { Self.FrsDisk.start self.new ≡ Self.FrsDisk.start self.old };
 
     /// How many calls failed that weren't armed. Where none was ever armed, these are all.
     fn unarmed(&self) -> u64
         ensures count { result ≡ (Self.FrsDisk.alarm self.now).unarmed }
-        ensures all { (Self.FrsDisk.alarm self.now).was_armed ≡ false → result ≡ (Self.FrsDisk.alarm self.now).faults };
+        ensures all { (Self.FrsDisk.alarm self.now).was_armed ≡ false
+            → result ≡ (Self.FrsDisk.alarm self.now).faults };
 }

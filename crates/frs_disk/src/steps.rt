@@ -12,7 +12,8 @@ pub fn write_synced<D: FrsDisk>(disk: &mut D, at: u64, bytes: &[u8]) -> Result<(
     requires within { IfSome (D.states disk.old) (λ ss. at ≤ length (seen_now ss)) }
     requires calls { 1 < D.spare_calls disk.old }
     requires bytes { length bytes.now ≤ D.spare_bytes disk.old }
-    ensures done { OnOk result (D.states disk.new ≡ pushed synced (pushed (wrote at bytes.now) (D.states disk.old))) }
+    ensures done { OnOk result
+        (D.states disk.new ≡ pushed synced (pushed (wrote at bytes.now) (D.states disk.old))) }
     ensures inside { Stops (wrote at bytes.now) (D.states disk.old) (D.states disk.new) }
     ensures word { CallsLeaveWord result (changes (wrote at bytes.now) ∷ syncs ∷ [])
         (D.alarm disk.old) (D.alarm disk.new) (D.states disk.old) (D.states disk.new) }
@@ -31,7 +32,8 @@ pub fn write_synced<D: FrsDisk>(disk: &mut D, at: u64, bytes: &[u8]) -> Result<(
 pub fn cut_synced<D: FrsDisk>(disk: &mut D, end: u64) -> Result<(), Failed>
     requires within { IfSome (D.states disk.old) (λ ss. end ≤ length (seen_now ss)) }
     requires calls { 1 < D.spare_calls disk.old }
-    ensures done { OnOk result (D.states disk.new ≡ pushed synced (pushed (cut_to end) (D.states disk.old))) }
+    ensures done { OnOk result
+        (D.states disk.new ≡ pushed synced (pushed (cut_to end) (D.states disk.old))) }
     ensures inside { Stops (cut_to end) (D.states disk.old) (D.states disk.new) }
     ensures word { CallsLeaveWord result (changes (cut_to end) ∷ syncs ∷ [])
         (D.alarm disk.old) (D.alarm disk.new) (D.states disk.old) (D.states disk.new) }

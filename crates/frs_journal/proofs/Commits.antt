@@ -3,6 +3,7 @@ use Rattle.std.proofs.Common.{◌≡◌, ◌≤◌, ◌⊎◌, ℕ, ◌+◌, ◌
 use Rattle.std.proofs.lemmas.List.{map-append, take_at}
 use Rattle.std.proofs.lemmas.List.Elements.{All-push}
 use Rattle.std.specs.List.{All}
+use Rattle.std.specs.Prelude.{IfSome}
 use Rattle.frs_base.specs.Machines.{Rules, Runs}
 use Rattle.frs_disk.specs.Crashes.{Crash, still, IsImage, Leaves}
 use Rattle.frs_disk.specs.Moments.{top, seen_now, Now, Goes, Since, MayLeave, MightLeave}
@@ -246,3 +247,10 @@ module _ {M C : Type 0} (law : Rules M C) where
       let Y : Option ℕ → Type 0 = λ g. Yields in_b g d in
       loads_slot m serial in_b r.commands r.mark r.saved r.generation r.first r.closing [] c d r.marked r.enough r.known r.short r.runs is r.closed
       (subst Y (marked_is m in_b end serial (top ss) other r) (yields d id)) r.count)) r.yields
+
+  -- the current slot's length is what a read gives
+  pub kept_length : (m : M) (in_b : Bool) (end serial : ℕ) (current other : Option (List Crash)) → Kept law m in_b end serial current other → IfSome current (λ ss. end ≡ length (seen_now ss))
+  kept_length m in_b end serial None other kept = tt
+  kept_length m in_b end serial (Some ss) other r =
+      let is : seen_now ss ≡ slot_front r.generation r.first (r.mark ++ map law.code r.commands) ++ r.closing ∷ [] = ap (λ (s : Crash). s.seen) r.bytes in
+      omega (arith, ap length is, length-append (slot_front r.generation r.first (r.mark ++ map law.code r.commands)) (r.closing ∷ []), r.size)

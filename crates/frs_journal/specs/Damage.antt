@@ -1,5 +1,5 @@
 -- The first wrong place of two slots.
-use Rattle.std.specs.Prelude.{ℕ, ◌≡◌, ◌≢◌, ◌⊎◌, List, true, false, Option, None}
+use Rattle.std.specs.Prelude.{ℕ, ◌≡◌, ◌≢◌, ◌⊎◌, List, Bool, true, false, Option, None}
 use Rattle.frs_base.specs.Machines.{Rules}
 use Rattle.frs_journal.specs.Reading.{CountsTooMany, IsWhole, LacksRecord}
 use Rattle.frs_disk.specs.Crashes.{Crash, IsImage}
@@ -59,3 +59,8 @@ ReadDamaged law (why.Damaged slot offset) a_told b_told =
 abbrev pub ReadLoads : {S C : Type 0} → Rules S C → S → ℕ → Option (List Crash) → Option (List Crash) → Type 0
 ReadLoads law state serial a_told b_told =
     (a : List ℕ) × (b : List ℕ) × Now (IsRead a) a_told × Now (IsRead b) b_told × Loads law state serial a b
+
+-- the current slot is the one that is taken by the bytes that reads give, slot a where neither is valid
+abbrev pub ReadTakes : Bool → Option (List Crash) → Option (List Crash) → Type 0
+ReadTakes in_b a_told b_told =
+    (a : List ℕ) × (b : List ℕ) × Now (IsRead a) a_told × Now (IsRead b) b_told × (in_b ≡ takes_b (generation_of a) (generation_of b))

@@ -1,6 +1,6 @@
 -- When each fault of a journal may come.
 use Rattle.std.specs.Prelude.{ℕ, ◌≡◌, ◌≤◌, ◌<◌, ◌⊎◌, ◌^◌, Bool, true}
-use Rattle.frs_disk.specs.Alarms.{Rose}
+use Rattle.frs_disk.specs.Alarms.{Alarm, FailsSome, PassesSome, Rose}
 use Rattle.frs_journal.specs.declared.faults.ApplyFault.{ApplyFault}
 use Rattle.frs_journal.specs.declared.faults.ApplyFault.TheVariants.{Memory, DiskFault, JournalFull, Shut}
 use Rattle.frs_journal.specs.declared.faults.LoadWhy.{LoadWhy}
@@ -61,3 +61,16 @@ abbrev pub IsLoadFault : LoadWhy → ℕ → ℕ → ℕ → ℕ → Type 0
 IsLoadFault why.Memory a a' b b' = Unit
 IsLoadFault (why.DiskFault count) a a' b b' = IsCounted count a a' ⊎ IsCounted count b b'
 IsLoadFault (why.Damaged slot offset) a a' b b' = Unit
+
+-- what was done to the alarm of a disk before a journal wasn't opened: no call failed, or the last one did, and the count is that of the faults
+abbrev pub Halts : LoadWhy → Alarm → Alarm → Type 0
+Halts why.Memory old new = PassesSome old new
+Halts (why.DiskFault count) old new = FailsSome old new × (count ≡ new.faults)
+Halts (why.Damaged slot offset) old new = PassesSome old new
+
+-- the same of two disks: of one of them a call failed
+abbrev pub HaltsEither : LoadWhy → Alarm → Alarm → Alarm → Alarm → Type 0
+HaltsEither why.Memory a a' b b' = PassesSome a a' × PassesSome b b'
+HaltsEither (why.DiskFault count) a a' b b' =
+    (FailsSome a a' × (count ≡ a'.faults) × PassesSome b b') ⊎ (PassesSome a a' × FailsSome b b' × (count ≡ b'.faults))
+HaltsEither (why.Damaged slot offset) a a' b b' = PassesSome a a' × PassesSome b b'

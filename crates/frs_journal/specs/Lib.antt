@@ -9,3 +9,4 @@ pub mod Picks
 pub mod Opens
 pub mod Unmade
 pub mod Faults
+pub mod Errors

@@ -10,6 +10,11 @@ pub enum Slot {
 }
 
 impl fmt::Display for Slot {
+    ghost use Rattle.std.specs.Prelude.{Some};
+    ghost use Rattle.frs_journal.specs.Errors.{slot_text};
+
+    ghost output = { λ slot. Some (slot_text slot) };
+
     fn fmt<W: fmt::Write>(&self, f: &mut fmt::Formatter<W>) -> fmt::Result {
         match self {
             Slot::A => write!(f, "a"),
@@ -33,6 +38,11 @@ pub enum ApplyFault {
 }
 
 impl fmt::Display for ApplyFault {
+    ghost use Rattle.std.specs.Prelude.{Some};
+    ghost use Rattle.frs_journal.specs.Errors.{apply_fault_text};
+
+    ghost output = { λ fault. Some (apply_fault_text fault) };
+
     fn fmt<W: fmt::Write>(&self, f: &mut fmt::Formatter<W>) -> fmt::Result {
         match self {
             ApplyFault::Memory => write!(f, "memory ran out"),
@@ -59,6 +69,11 @@ pub enum LoadWhy {
 }
 
 impl fmt::Display for LoadWhy {
+    ghost use Rattle.std.specs.Prelude.{Some};
+    ghost use Rattle.frs_journal.specs.Errors.{load_why_text};
+
+    ghost output = { λ why. Some (load_why_text why) };
+
     fn fmt<W: fmt::Write>(&self, f: &mut fmt::Formatter<W>) -> fmt::Result {
         match self {
             LoadWhy::Memory => write!(f, "memory ran out"),

@@ -1,6 +1,7 @@
 // A machine, and the journal of its commands.
-ghost use Rattle.std.specs.Prelude.{◌≡◌, ◌≤◌, ◌<◌, ◌+◌, ◌-◌, ◌^◌, ◌%◌, ◌∷◌, ◌++◌, [], ℕ, length, false, true, Err, OnOk, OnErr, IfOk, IfErr, Some, None};
+ghost use Rattle.std.specs.Prelude.{◌≡◌, ◌≤◌, ◌<◌, ◌+◌, ◌-◌, ◌^◌, ◌%◌, ◌∷◌, ◌++◌, [], ℕ, length, false, true, Err, OnOk, OnErr, IfOk, IfErr, IfSome, Some, None};
 ghost use Rattle.frs_disk.specs.Alarms.{Passes, armed_if, disarmed};
+ghost use Rattle.frs_disk.specs.Moments.{seen_now};
 ghost use Rattle.frs_journal.specs.Faults.{IsApplyFault, IsCommitFault, IsDiskFault, IsRefused};
 ghost use Rattle.frs_journal.specs.Loads.{Loads};
 ghost use Rattle.frs_journal.specs.Rests.{Kept};
@@ -57,7 +58,8 @@ impl<M: Machine, D: FrsDisk> Model for Journalled<M, D> {
     } };
 
     ghost invariant = { λ s. (26 ≤ s.end) × (s.end ≤ 2 ^ 61)
-        × (s.shut ≡ false → Kept M.law (M.state s.machine) s.in_b s.end s.serial (D.states s.current) (D.states s.other)) };
+        × (s.shut ≡ false → Kept M.law (M.state s.machine) s.in_b s.end s.serial
+        (D.states s.current) (D.states s.other)) };
 }
 
 /// A command that is ready to be committed: all memory for it is taken.
@@ -109,8 +111,17 @@ impl<M: Machine, D: FrsDisk> Journalled<M, D> {
     ) -> Journalled<M, D>
         requires low { 26 ≤ end }
         requires high { end ≤ 2 ^ 61 }
-        requires kept { Kept M.law (M.state machine) in_b end serial (D.states current) (D.states other) }
-        ensures { result ≡ record { machine = machine; current = current; other = other; in_b = in_b; end = end; serial = serial; shut = false } }
+        requires kept { Kept M.law (M.state machine) in_b end serial
+            (D.states current) (D.states other) }
+        ensures { result ≡ record {
+          machine = machine;
+          current = current;
+          other = other;
+          in_b = in_b;
+          end = end;
+          serial = serial;
+          shut = false;
+        } }
     {
         Journalled {
             machine,
@@ -141,7 +152,9 @@ impl<M: Machine, D: FrsDisk> Journalled<M, D> {
 
     /// The length of the current slot, in bytes.
     pub fn end(&self) -> u64
-        ensures { result ≡ self.now.end }
+        ensures end { result ≡ self.now.end }
+        ensures length { self.now.shut ≡ false → IfSome (D.states self.now.current)
+            (λ ss. self.now.end ≡ length (seen_now ss)) }
     {
         self.end
     }
@@ -169,7 +182,8 @@ impl<M: Machine, D: FrsDisk> Journalled<M, D> {
 
     /// Takes all that a command needs, the disk's room too, and makes no call of a device.
     pub fn prepare(&mut self, alloc: Global, cmd: M::Cmd) -> Result<Prepared<M>, ApplyFault>
-        ensures ready { IfOk result (λ p. (M.command p.ready ≡ cmd) × M.fits p.ready self.new.machine
+        ensures ready { IfOk result (λ p. (M.command p.ready ≡ cmd)
+            × M.fits p.ready self.new.machine
             × (length p.body ≡ length (M.law.code cmd) + 5)) }
         ensures spare { IfOk result (λ p. (3 < D.spare_calls self.new.current)
             × (length p.body + 1 ≤ D.spare_bytes self.new.current)) }
@@ -297,6 +311,10 @@ impl<M: Machine, D: ScriptDisk> Journalled<M, D> {
         ensures alarm { D.FrsDisk.alarm self.new.current
             ≡ armed_if result call (Some image) (D.FrsDisk.alarm self.old.current) }
         ensures states { D.FrsDisk.states self.new.current ≡ D.FrsDisk.states self.old.current }
+        ensures calls { D.FrsDisk.spare_calls self.new.current
+            ≡ D.FrsDisk.spare_calls self.old.current }
+        ensures bytes { D.FrsDisk.spare_bytes self.new.current
+            ≡ D.FrsDisk.spare_bytes self.old.current }
         ensures machine { self.new.machine ≡ self.old.machine }
         ensures same { SameJournal self.old self.new }
     {
@@ -310,6 +328,10 @@ impl<M: Machine, D: ScriptDisk> Journalled<M, D> {
         ensures alarm { D.FrsDisk.alarm self.new.current
             ≡ armed_if result call None (D.FrsDisk.alarm self.old.current) }
         ensures states { D.FrsDisk.states self.new.current ≡ D.FrsDisk.states self.old.current }
+        ensures calls { D.FrsDisk.spare_calls self.new.current
+            ≡ D.FrsDisk.spare_calls self.old.current }
+        ensures bytes { D.FrsDisk.spare_bytes self.new.current
+            ≡ D.FrsDisk.spare_bytes self.old.current }
         ensures machine { self.new.machine ≡ self.old.machine }
         ensures same { SameJournal self.old self.new }
     {
@@ -318,12 +340,19 @@ impl<M: Machine, D: ScriptDisk> Journalled<M, D> {
 
     /// Takes back what was armed on either disk.
     pub fn disarm(&mut self)
-        ensures alarm { D.FrsDisk.alarm self.new.current ≡ disarmed (D.FrsDisk.alarm self.old.current) }
-        ensures other_alarm { D.FrsDisk.alarm self.new.other ≡ disarmed (D.FrsDisk.alarm self.old.other) }
+        ensures alarm { D.FrsDisk.alarm self.new.current
+            ≡ disarmed (D.FrsDisk.alarm self.old.current) }
+        ensures other_alarm { D.FrsDisk.alarm self.new.other
+            ≡ disarmed (D.FrsDisk.alarm self.old.other) }
         ensures states { D.FrsDisk.states self.new.current ≡ D.FrsDisk.states self.old.current }
         ensures other_states { D.FrsDisk.states self.new.other ≡ D.FrsDisk.states self.old.other }
+        ensures calls { D.FrsDisk.spare_calls self.new.current
+            ≡ D.FrsDisk.spare_calls self.old.current }
+        ensures bytes { D.FrsDisk.spare_bytes self.new.current
+            ≡ D.FrsDisk.spare_bytes self.old.current }
         ensures machine { self.new.machine ≡ self.old.machine }
-        ensures same { (self.new.in_b ≡ self.old.in_b) × (self.new.end ≡ self.old.end) × (self.new.serial ≡ self.old.serial) × (self.new.shut ≡ self.old.shut) }
+        ensures same { (self.new.in_b ≡ self.old.in_b) × (self.new.end ≡ self.old.end)
+            × (self.new.serial ≡ self.old.serial) × (self.new.shut ≡ self.old.shut) }
     {
         self.current.disarm();
         self.other.disarm();

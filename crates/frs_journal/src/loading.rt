@@ -3,14 +3,14 @@ ghost use Rattle.std.specs.Prelude.{◌≡◌, ◌<◌, ◌^◌, List, ℕ, leng
 ghost use Rattle.frs_base.specs.Machines.{IsFresh};
 ghost use Rattle.frs_disk.specs.Crashes.{IsStill, Leaves, Stands, synced, unchanged};
 ghost use Rattle.frs_disk.specs.Moments.{Now, Stops, pushed, seen_now};
-ghost use Rattle.frs_journal.specs.Damage.{DamagedIn, ReadDamaged, ReadLoads, TakenDamaged};
-ghost use Rattle.frs_disk.specs.Alarms.{Passes};
-ghost use Rattle.frs_journal.specs.Faults.{IsDeviceFault, IsLoadFault, IsSlotFault, IsUnread};
+ghost use Rattle.frs_journal.specs.Damage.{DamagedIn, ReadDamaged, ReadLoads, ReadTakes, TakenDamaged};
+ghost use Rattle.frs_disk.specs.Alarms.{Passes, PassesSome};
+ghost use Rattle.frs_journal.specs.Faults.{Halts, HaltsEither, IsDeviceFault, IsLoadFault, IsSlotFault, IsUnread};
 ghost use Rattle.frs_journal.specs.Gates.{OrSame};
 ghost use Rattle.frs_journal.specs.Loads.{KeepsEither, Loads};
 ghost use Rattle.frs_journal.specs.Opens.{SameList};
 ghost use Rattle.frs_journal.specs.Reading.{IsValid};
-ghost use Rattle.frs_journal.specs.Slots.{Yields, generation_of, slot_a, slot_b};
+ghost use Rattle.frs_journal.specs.Slots.{Yields, generation_of, slot_a, slot_b, takes_b};
 ghost use Rattle.frs_journal.specs.State as state;
 ghost use Rattle.frs_journal.specs.Unmade.{Opening};
 ghost use Rattle.frs_journal.specs.declared.faults.Slot.TheVariants as slots_of;
@@ -37,11 +37,14 @@ struct Slots {
 
 /// The bytes of a disk.
 fn read_all<D: FrsDisk>(alloc: Global, disk: &mut D) -> Result<Vec<u8>, LoadWhy>
-    ensures bytes { IfOk result (λ bytes. IfSome (D.states disk.old) (λ ss. bytes.items ≡ seen_now ss)) }
+    ensures bytes { IfOk result (λ bytes. IfSome (D.states disk.old)
+        (λ ss. bytes.items ≡ seen_now ss)) }
     ensures size { IfOk result (λ bytes. length bytes.items < 2 ^ 61) }
     ensures states { D.states disk.new ≡ D.states disk.old }
     ensures alarm { OnOk result (D.alarm disk.new ≡ D.alarm disk.old) }
-    ensures why { IfErr result (λ e. IsDeviceFault e (D.alarm disk.old).faults (D.alarm disk.new).faults) }
+    ensures why { IfErr result (λ e. IsDeviceFault e
+        (D.alarm disk.old).faults (D.alarm disk.new).faults) }
+    ensures halts { IfErr result (λ e. Halts e (D.alarm disk.old) (D.alarm disk.new)) }
 {
     let Ok(length) = disk.length() else {
         return Err(LoadWhy::DiskFault {
@@ -81,6 +84,8 @@ fn read_both<D: FrsDisk>(alloc: Global, a: &mut D, b: &mut D) -> Result<Slots, L
     ensures why { IfErr result (λ e. IsUnread e
         (D.alarm a.old).faults (D.alarm a.new).faults
         (D.alarm b.old).faults (D.alarm b.new).faults) }
+    ensures halts { IfErr result (λ e. HaltsEither e
+        (D.alarm a.old) (D.alarm a.new) (D.alarm b.old) (D.alarm b.new)) }
 {
     let Ok(()) = a.reserve(alloc, 1, 0) else {
         return Err(LoadWhy::Memory);
@@ -150,16 +155,25 @@ fn open_current<M: Machine, D: FrsDisk>(
     requires still { Now IsStill (D.states current) }
     requires bytes { IfSome (D.states current) (λ ss. bytes.now ≡ seen_now ss) }
     requires yields { Now (Leaves (Yields in_b (generation_of bytes.now))) (D.states other) }
-    ensures moved { IfOk result (λ j. OrSame (SameList bytes.now) (D.states current) (D.states j.current)
+    ensures moved { IfOk result (λ j.
+        OrSame (SameList bytes.now) (D.states current) (D.states j.current)
         × (j.other ≡ other) × (j.in_b ≡ in_b) × (j.shut ≡ false)) }
-    ensures failed { IfErr result (λ f. OrSame (SameList bytes.now) (D.states current) (D.states (slot_a in_b f.disk_a f.disk_b))
+    ensures failed { IfErr result (λ f. OrSame (SameList bytes.now)
+        (D.states current) (D.states (slot_a in_b f.disk_a f.disk_b))
         × (slot_b in_b f.disk_a f.disk_b ≡ other)) }
-    ensures state { IfOk result (λ j. (others : List ℕ) → Yields in_b (generation_of bytes.now) others
-        → Loads M.law (M.state j.machine) j.serial (slot_a in_b bytes.now others) (slot_b in_b bytes.now others)) }
-    ensures damaged { IfErr result (λ f. TakenDamaged M.law (if in_b then slots_of.B else slots_of.A) bytes.now f.why) }
+    ensures state { IfOk result (λ j. (others : List ℕ)
+        → Yields in_b (generation_of bytes.now) others
+        → Loads M.law (M.state j.machine) j.serial
+        (slot_a in_b bytes.now others) (slot_b in_b bytes.now others)) }
+    ensures damaged { IfErr result (λ f. TakenDamaged M.law
+        (if in_b then slots_of.B else slots_of.A) bytes.now f.why) }
     ensures fault { IfErr result (λ f. IsSlotFault f.why
         (D.alarm current).faults (D.alarm (slot_a in_b f.disk_a f.disk_b)).faults) }
-    ensures origin { IfOk result (λ j. M.law.origin (M.state j.machine) ≡ M.law.origin (M.state machine)) }
+    ensures alarm { IfOk result (λ j. PassesSome (D.alarm current) (D.alarm j.current)) }
+    ensures halts { IfErr result (λ f. Halts f.why
+        (D.alarm current) (D.alarm (slot_a in_b f.disk_a f.disk_b))) }
+    ensures origin { IfOk result (λ j.
+        M.law.origin (M.state j.machine) ≡ M.law.origin (M.state machine)) }
 {
     let mut current = current;
     match open_slot(alloc, machine, slot_of(in_b), &mut current, bytes) {
@@ -191,16 +205,26 @@ fn open_slots<M: Machine, D: FrsDisk>(
     requires size_a { length slots.now.a.items < 2 ^ 61 }
     requires size_b { length slots.now.b.items < 2 ^ 61 }
     ensures opened { IfOk result (λ j. Opening slots.now.a.items slots.now.b.items
-        (D.states disk_a) (D.states (state.disk_a j)) (D.states disk_b) (D.states (state.disk_b j))) }
+        (D.states disk_a) (D.states (state.disk_a j))
+        (D.states disk_b) (D.states (state.disk_b j))) }
     ensures failed { IfErr result (λ f. Opening slots.now.a.items slots.now.b.items
         (D.states disk_a) (D.states f.disk_a) (D.states disk_b) (D.states f.disk_b)) }
-    ensures state { IfOk result (λ j. Loads M.law (M.state j.machine) j.serial slots.now.a.items slots.now.b.items) }
-    ensures damaged { IfErr result (λ f. DamagedIn M.law slots.now.a.items slots.now.b.items f.why) }
+    ensures state { IfOk result (λ j. Loads M.law (M.state j.machine) j.serial
+        slots.now.a.items slots.now.b.items) }
+    ensures taken { IfOk result (λ j. j.in_b
+        ≡ takes_b (generation_of slots.now.a.items) (generation_of slots.now.b.items)) }
+    ensures damaged { IfErr result (λ f. DamagedIn M.law
+        slots.now.a.items slots.now.b.items f.why) }
     ensures fault { IfErr result (λ f. IsLoadFault f.why
         (D.alarm disk_a).faults (D.alarm f.disk_a).faults
         (D.alarm disk_b).faults (D.alarm f.disk_b).faults) }
+    ensures alarm { IfOk result (λ j. PassesSome (D.alarm disk_a) (D.alarm (state.disk_a j))
+        × PassesSome (D.alarm disk_b) (D.alarm (state.disk_b j))) }
+    ensures halts { IfErr result (λ f. HaltsEither f.why
+        (D.alarm disk_a) (D.alarm f.disk_a) (D.alarm disk_b) (D.alarm f.disk_b)) }
     ensures open { IfOk result (λ j. j.shut ≡ false) }
-    ensures origin { IfOk result (λ j. M.law.origin (M.state j.machine) ≡ M.law.origin (M.state machine)) }
+    ensures origin { IfOk result (λ j.
+        M.law.origin (M.state j.machine) ≡ M.law.origin (M.state machine)) }
 {
     let a = slots.a.as_slice();
     let b = slots.b.as_slice();
@@ -229,6 +253,8 @@ impl<M: Machine, D: FrsDisk> Journalled<M, D> {
         requires fresh { IsFresh M.law (M.state machine) }
         ensures state { IfOk result (λ j. ReadLoads
             M.law (M.state j.machine) j.serial (D.states disk_a) (D.states disk_b)) }
+        ensures taken { IfOk result (λ j. ReadTakes
+            j.in_b (D.states disk_a) (D.states disk_b)) }
         ensures damaged { IfErr result (λ f. ReadDamaged
             M.law f.why (D.states disk_a) (D.states disk_b)) }
         ensures fault { IfErr result (λ f. IsLoadFault f.why
@@ -239,6 +265,11 @@ impl<M: Machine, D: FrsDisk> Journalled<M, D> {
             (D.states disk_b) (D.states (state.disk_b j))) }
         ensures failed { IfErr result (λ f. KeepsEither M.law
             (D.states disk_a) (D.states f.disk_a) (D.states disk_b) (D.states f.disk_b)) }
+        ensures alarm { IfOk result (λ j.
+            PassesSome (D.alarm disk_a) (D.alarm (state.disk_a j))
+            × PassesSome (D.alarm disk_b) (D.alarm (state.disk_b j))) }
+        ensures halts { IfErr result (λ f. HaltsEither f.why
+            (D.alarm disk_a) (D.alarm f.disk_a) (D.alarm disk_b) (D.alarm f.disk_b)) }
         ensures open { IfOk result (λ j. j.shut ≡ false) }
         ensures origin { IfOk result (λ j. M.law.origin (M.state j.machine) ≡ M.state machine) }
     {

@@ -1,8 +1,10 @@
 // The current slot of a journal is opened.
-ghost use Rattle.std.specs.Prelude.{◌≡◌, ◌≤◌, ◌<◌, ◌^◌, length, IfOk, IfErr, IfSome};
+ghost use Rattle.std.specs.Prelude.{◌≡◌, ◌≤◌, ◌<◌, ◌^◌, length, IfOk, IfErr, IfSome, OnOk};
 ghost use Rattle.frs_base.specs.Machines.{Runs};
+ghost use Rattle.frs_disk.specs.Alarms.{Passes};
 ghost use Rattle.frs_disk.specs.Crashes.{IsStill};
-ghost use Rattle.frs_disk.specs.Moments.{Now, Tells, seen_now};
+ghost use Rattle.frs_disk.specs.Moments.{Now, seen_now};
+ghost use Rattle.frs_journal.specs.Faults.{Halts};
 ghost use Rattle.frs_journal.specs.Gates.{OrSame};
 ghost use Rattle.frs_journal.specs.Opens.{OpenFault, Opens, SameList};
 ghost use Rattle.frs_journal.specs.Reading.{IsValid};
@@ -61,11 +63,16 @@ pub(crate) fn open_slot<M: Machine, D: FrsDisk>(
     requires still { Now IsStill (D.states disk.old) }
     requires bytes { IfSome (D.states disk.old) (λ ss. bytes.now ≡ seen_now ss) }
     ensures inside { OrSame (SameList bytes.now) (D.states disk.old) (D.states disk.new) }
-    ensures done { IfOk result (λ o. Opens M.law (M.state machine) bytes.now (M.state o.machine) o.end o.serial (D.states disk.new)) }
-    ensures origin { IfOk result (λ o. M.law.origin (M.state o.machine) ≡ M.law.origin (M.state machine)) }
+    ensures done { IfOk result (λ o. Opens M.law (M.state machine) bytes.now
+        (M.state o.machine) o.end o.serial (D.states disk.new)) }
+    ensures origin { IfOk result (λ o.
+        M.law.origin (M.state o.machine) ≡ M.law.origin (M.state machine)) }
     ensures low { IfOk result (λ o. 26 ≤ o.end) }
     ensures high { IfOk result (λ o. o.end ≤ 2 ^ 61) }
-    ensures fault { IfErr result (λ e. OpenFault M.law slot bytes.now e (D.alarm disk.old).faults (D.alarm disk.new).faults) }
+    ensures fault { IfErr result (λ e. OpenFault M.law slot bytes.now e
+        (D.alarm disk.old).faults (D.alarm disk.new).faults) }
+    ensures alarm { OnOk result (Passes 2 (D.alarm disk.old) (D.alarm disk.new)) }
+    ensures halts { IfErr result (λ e. Halts e (D.alarm disk.old) (D.alarm disk.new)) }
 {
     let parsed = match read_slot::<M>(alloc, bytes) {
         Ok(parsed) => parsed,

@@ -26,10 +26,12 @@ pub(crate) enum Parsed<C> {
 
 /// The payload behind an opened gate, where the record and a gate behind it are there.
 fn payload_of(rest: &[u8]) -> Option<&[u8]>
-    ensures whole { IfSome result (λ p. rest.now ≡ framed p.now ++ drop (4 + length p.now) rest.now) }
+    ensures whole { IfSome result (λ p.
+        rest.now ≡ framed p.now ++ drop (4 + length p.now) rest.now) }
     ensures inside { IfSome result (λ p. 4 + length p.now < length rest.now) }
     ensures short { IfSome result (λ p. IsShort p.now) }
-    ensures none { IfNone result ((p : List ℕ) (gate : ℕ) (more : List ℕ) → IsShort p → rest.now ≡ framed p ++ gate ∷ more → ⊥) }
+    ensures none { IfNone result ((p : List ℕ) (gate : ℕ) (more : List ℕ)
+        → IsShort p → rest.now ≡ framed p ++ gate ∷ more → ⊥) }
 {
     if rest.len() < 5 {
         return None;

@@ -76,32 +76,56 @@ fn refusal(alloc: Global, bytes: &[u8]) -> Result<Option<LoadWhy>, Fail> {
     Ok(loaded.err().map(|fault| fault.why))
 }
 
+/// The bytes of slot a of a journal, and how many slot b has.
+fn slots_of(alloc: Global, journal: Journalled<Tape, MemDisk>) -> Result<(Vec<u8>, u64), Fail> {
+    let (mut disk_a, mut disk_b) = journal.into_disks();
+    Ok((bytes_of(alloc, &mut disk_a)?, disk_b.length()?))
+}
+
+/// A journal that was loaded from two empty disks.
+fn loaded_from_nothing(alloc: Global) -> Result<Journalled<Tape, MemDisk>, Fail> {
+    let loaded = Journalled::load(
+        alloc,
+        empty_tape(),
+        MemDisk::new(alloc),
+        MemDisk::new(alloc),
+    );
+    Ok(loaded.map_err(|fault| fault.why)?)
+}
+
 #[test]
 fn fresh_slot(rt: HostRuntime) -> Result<(), Fail> {
     let alloc = rt.alloc();
-    let (mut disk_a, mut disk_b) = journal(alloc)?.into_disks();
-    assert_eq!(rt; bytes_of(alloc, &mut disk_a)?.as_slice(), FRESH.as_slice());
-    assert_eq!(rt; disk_b.length()?, 0);
+    let (made, other) = slots_of(alloc, journal(alloc)?)?;
+    assert_eq!(rt; made.as_slice(), FRESH.as_slice());
+    assert_eq!(rt; other, 0);
+    let (loaded, other) = slots_of(alloc, loaded_from_nothing(alloc)?)?;
+    assert_eq!(rt; loaded.as_slice(), FRESH.as_slice());
+    assert_eq!(rt; other, 0);
     Ok(())
 }
 
 #[test]
-fn open_last_gate_and_bad_magic(rt: HostRuntime) -> Result<(), Fail> {
-    let alloc = rt.alloc();
+fn open_last_gate(rt: HostRuntime) -> Result<(), Fail> {
     let mut opened = FRESH;
     opened[25] = 1;
     let why = LoadWhy::Damaged {
         slot: Slot::A,
         offset: 25,
     };
-    assert_eq!(rt; refusal(alloc, &opened)?, Some(why));
+    assert_eq!(rt; refusal(rt.alloc(), &opened)?, Some(why));
+    Ok(())
+}
+
+#[test]
+fn bad_magic(rt: HostRuntime) -> Result<(), Fail> {
     let mut other = FRESH;
     other[8] = 0x32;
     let why = LoadWhy::Damaged {
         slot: Slot::A,
         offset: 1,
     };
-    assert_eq!(rt; refusal(alloc, &other)?, Some(why));
+    assert_eq!(rt; refusal(rt.alloc(), &other)?, Some(why));
     Ok(())
 }
 

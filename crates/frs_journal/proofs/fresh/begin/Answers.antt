@@ -1,6 +1,7 @@
 use Rattle.std.proofs.Common.{refl}
 use Rattle.frs_disk.specs.Crashes.{Crash, IsStill, Leaves}
 use Rattle.frs_disk.proofs.Moments.{goes_none}
+use Rattle.frs_disk.proofs.Ringing.{fails_some, passes_from, passes_same}
 use Rattle.frs_journal.specs.Unmade.{IsBegun, IsNone, fresh_body}
 use Rattle.frs_journal.proofs.Begins.{fresh_kept, goes_from, now_from, renew_begins}
 use Rattle.frs_journal.proofs.fresh.begin.Goals as goal
@@ -31,3 +32,22 @@ returns-clause-moved g c =
     let f = g.D.FrsDisk.states in
     let none = now_from (λ (s : Crash). IsNone s.seen) (f c.args.disk_a) (f c.reserve.new.self) c.reserve.ensures.states c.requires.none_a in
     rw c.at_rest.ensures (goes_from (Leaves IsBegun) (f c.args.disk_a) (f c.reserve.new.self) (f c.renew.new.disk) c.reserve.ensures.states (renew_begins fresh_body (f c.reserve.new.self) (f c.renew.new.disk) refl none c.renew.ensures.inside), refl, refl)
+
+pub returns-in_default-clause-halts : goal.returns-in_default-clause-halts
+returns-in_default-clause-halts g c =
+    let x = g.D.FrsDisk.alarm in
+    (passes_same (x c.args.disk_a) (x c.reserve.new.self) c.reserve.ensures.alarm, refl)
+
+pub returns-in_default-renew-clause-halts : goal.returns-in_default-renew-clause-halts
+returns-in_default-renew-clause-halts g c =
+    let x = g.D.FrsDisk.alarm in
+    let h = c.in_default-renew.ensures.alarm in
+    ((fails_some (x c.args.disk_a) (x c.reserve.new.self) (x c.renew.new.disk) (passes_same (x c.args.disk_a) (x c.reserve.new.self) c.reserve.ensures.alarm) (h.0, h.2), c.faults-count.ensures), refl)
+
+pub returns-clause-alarm : goal.returns-clause-alarm
+returns-clause-alarm g c =
+    let x = g.D.FrsDisk.alarm in
+    rw c.at_rest.ensures (passes_from 8 (x c.args.disk_a) (x c.reserve.new.self) (x c.renew.new.disk) c.reserve.ensures.alarm c.in-Ok-renew.ensures.alarm)
+
+pub returns-clause-slots : goal.returns-clause-slots
+returns-clause-slots g c = rw c.at_rest.ensures (refl, refl, c.in-Ok-renew.ensures.done)

@@ -1,4 +1,5 @@
 use Rattle.std.proofs.Common.{rules, ◌≡◌, arith, ◌+◌, ◌-◌, ◌%◌, ◌^◌, length}
+use Rattle.frs_disk.proofs.Ringing.{passes_same}
 use Rattle.frs_journal.specs.Slots.{serial_at}
 use Rattle.frs_journal.proofs.Openings.{open_done, open_inside, opened_size, origin_kept}
 use Rattle.frs_journal.proofs.opening.open_slot.Goals as goal
@@ -36,3 +37,8 @@ returns-clause-high g c =
 
 pub returns-clause-origin : goal.returns-clause-origin
 returns-clause-origin g c = origin_kept g.M.Machine.law g.met.M.Machine.lawful.keeps_origin (g.M.Machine.state c.args.machine) (g.M.Machine.state c.in-Ok-run_all.machine) c.in-Whole.commands.items c.in-Ok-run_all.ensures
+
+pub returns-in_default-run_all-clause-halts : goal.returns-in_default-run_all-clause-halts
+returns-in_default-run_all-clause-halts g c =
+    let x = g.D.FrsDisk.alarm in
+    passes_same (x c.args.disk.now) (x c.reserve.new.self) c.reserve.ensures.alarm

@@ -1,7 +1,7 @@
 use Rattle.std.proofs.lemmas.Result.{IfErr-weaker, IfOk-weaker}
 use Rattle.frs_journal.specs.Loads.{LoadsEither}
-use Rattle.frs_disk.proofs.Ringing.{passes_faults}
-use Rattle.frs_journal.proofs.Counting.{load_from, unread_load}
+use Rattle.frs_disk.proofs.Ringing.{passes_faults, passes_some}
+use Rattle.frs_journal.proofs.Counting.{halts_from, load_from, unread_load}
 use Rattle.frs_journal.proofs.Moves.{load_crash, read_before, seen_before}
 use Rattle.frs_journal.proofs.Readings.{read_damaged, settle_crash, unread_damaged}
 use Rattle.frs_journal.proofs.journalled.Journalled.load.Goals as goal
@@ -73,3 +73,34 @@ returns-in-Ok-clause-damaged g c =
     (read_before s.a.items (f c.args.disk_a) (f c.read_both.new.a) e.stood_a e.settled_a e.bytes_a)
     (read_before s.b.items (f c.args.disk_b) (f c.read_both.new.b) e.stood_b e.settled_b e.bytes_b) h)
     c.open_slots.ensures.damaged
+
+pub returns-in-Ok-clause-taken : goal.returns-in-Ok-clause-taken
+returns-in-Ok-clause-taken g c =
+    let f = g.D.FrsDisk.states in
+    let e = c.in-Ok.ensures in
+    let s = c.in-Ok.slots in
+    IfOk-weaker c.open_slots.result _ _
+    (λ j h. (
+      s.a.items,
+      s.b.items,
+      read_before s.a.items (f c.args.disk_a) (f c.read_both.new.a) e.stood_a e.settled_a e.bytes_a,
+      read_before s.b.items (f c.args.disk_b) (f c.read_both.new.b) e.stood_b e.settled_b e.bytes_b,
+      h,
+    ))
+    c.open_slots.ensures.taken
+
+pub returns-in-Ok-clause-alarm : goal.returns-in-Ok-clause-alarm
+returns-in-Ok-clause-alarm g c =
+    let e = c.in-Ok.ensures in
+    let x = g.D.FrsDisk.alarm in
+    IfOk-weaker c.open_slots.result _ _
+    (λ j h. (passes_some (x c.args.disk_a) (x c.read_both.new.a) _ (1, e.passed_a) h.0, passes_some (x c.args.disk_b) (x c.read_both.new.b) _ (1, e.passed_b) h.1))
+    c.open_slots.ensures.alarm
+
+pub returns-in-Ok-clause-halts : goal.returns-in-Ok-clause-halts
+returns-in-Ok-clause-halts g c =
+    let e = c.in-Ok.ensures in
+    let x = g.D.FrsDisk.alarm in
+    IfErr-weaker c.open_slots.result _ _
+    (λ fault h. halts_from fault.why (x c.args.disk_a) (x c.read_both.new.a) (x fault.disk_a) (x c.args.disk_b) (x c.read_both.new.b) (x fault.disk_b) (1, e.passed_a) (1, e.passed_b) h)
+    c.open_slots.ensures.halts
