@@ -1,11 +1,10 @@
 -- From what a load says of two disks to what is found of two slots.
-use Rattle.std.proofs.Common.{◌≡◌, ◌++◌, ◌∷◌, ◌+◌, ◌<◌, ℕ, List, length, take, drop, sym, ap, ◌∙◌, subst, Some, get_or}
+use Rattle.std.proofs.Common.{◌≡◌, ℕ, List, sym, ap, ◌∙◌, subst, Some}
 use Rattle.frs_disk.specs.Crashes.{Crash, still}
 use Rattle.frs_disk.specs.Moments.{top}
 use Rattle.frs_journal.specs.Damage.{IsDamaged, IsRead, ReadLoads}
 use Rattle.frs_journal.specs.Loads.{Loads}
 use Rattle.frs_journal.specs.declared.faults.Slot.{Slot}
-use Rattle.frs_journal.proofs.Gated.{one_more}
 use Rattle.slot_probe.specs.Found.{IsFound, IsStateOf}
 use Rattle.slot_probe.specs.Piles.{pile_rules}
 use Rattle.slot_probe.specs.declared.probe.Found.{Found}
@@ -29,7 +28,3 @@ found_damaged a b slot offset ss ts is_a is_b (x, y, read_x, read_y, damaged) =
     let A : List ℕ → Type 0 = λ l. IsDamaged pile_rules l b slot offset in
     let B : List ℕ → Type 0 = λ l. IsDamaged pile_rules x l slot offset in
     subst A (read_is a x ss is_a read_x) (subst B (read_is b y ts is_b read_y) damaged)
-
--- a row by the words around a space
-pub two_words : (row : List ℕ) (at : ℕ) → at < length row → get_or row at 0 ≡ 32 → row ≡ take at row ++ 32 ∷ drop (at + 1) row
-two_words row at within is = one_more at row within ∙ ap (λ (x : ℕ). take at row ++ x ∷ drop (at + 1) row) is

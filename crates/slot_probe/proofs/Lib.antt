@@ -1,2 +1,4 @@
 pub mod Spellings
 pub mod Founds
+pub mod Words
+pub mod Writing

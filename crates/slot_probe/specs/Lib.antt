@@ -1,3 +1,4 @@
 pub mod Piles
 pub mod Found
 pub mod Rows
+pub mod Codes

@@ -8,11 +8,14 @@ pub mod bench;
 pub mod pile;
 pub mod probe;
 pub mod rows;
+pub mod status;
 
 use crate::bench::{Work, run};
 use crate::probe::ProbeError;
 use crate::rows::{RowsError, write_answers};
+use crate::status::Status;
 use frs_io::{ReadError, StdSink, StdSource, WriteError, read_to_limit, write_all};
+use std::io::ErrorKind;
 use std::process::ExitCode;
 use std::{env, io};
 
@@ -47,20 +50,6 @@ const VERSION: &str = "slot_probe 0.1.0\n";
 /// How many bytes of rows are read.
 const LIMIT: usize = 1 << 30;
 
-const DONE: u8 = 0;
-
-const BAD_USAGE: u8 = 2;
-
-const READ_FAULT: u8 = 4;
-
-const WRITE_FAULT: u8 = 5;
-
-const DISK_FAULT: u8 = 6;
-
-const TOO_LARGE: u8 = 8;
-
-const NO_MEMORY: u8 = 9;
-
 /// The words behind the program's name.
 fn words_of(rt: &HostRuntime) -> io::Result<Vec<String>> {
     let mut words = Vec::new(rt.alloc());
@@ -70,39 +59,41 @@ fn words_of(rt: &HostRuntime) -> io::Result<Vec<String>> {
     Ok(words)
 }
 
-fn probe_status(why: ProbeError) -> u8 {
+/// How a run ends whose rows weren't all answered.
+fn probe_status(why: ProbeError) -> Status {
     match why {
-        ProbeError::Memory => NO_MEMORY,
-        ProbeError::Device => DISK_FAULT,
+        ProbeError::Memory => Status::Memory,
+        ProbeError::Device => Status::DiskFault,
     }
 }
 
-fn write_status(why: WriteError) -> u8 {
+/// How a run ends whose text wasn't all written.
+fn write_status(why: WriteError) -> Status {
     match why {
-        WriteError::Failed => WRITE_FAULT,
-        WriteError::Memory => NO_MEMORY,
+        WriteError::Failed => Status::WriteFault,
+        WriteError::Memory => Status::Memory,
     }
 }
 
 /// Answers the rows of standard input.
-fn answer_rows(rt: &HostRuntime) -> u8 {
+fn answer_rows(rt: &HostRuntime) -> Status {
     let mut input = StdSource::new(rt.stdin());
     let rows = match read_to_limit(rt.alloc(), &mut input, LIMIT) {
         Ok(rows) => rows,
-        Err(ReadError::Failed) => return READ_FAULT,
-        Err(ReadError::TooLong) => return TOO_LARGE,
-        Err(ReadError::Memory) => return NO_MEMORY,
+        Err(ReadError::Failed) => return Status::ReadFault,
+        Err(ReadError::TooLong) => return Status::TooLarge,
+        Err(ReadError::Memory) => return Status::Memory,
     };
     let mut out = StdSink::new(rt.stdout());
     match write_answers(rt.alloc(), rows.as_slice(), &mut out) {
-        Ok(()) => DONE,
+        Ok(()) => Status::Done,
         Err(RowsError::Probe(why)) => probe_status(why),
         Err(RowsError::Write(why)) => write_status(why),
     }
 }
 
 /// Does so many commands, and writes what they came to.
-fn measure(rt: &HostRuntime, work: Work, count: u32, length: u32) -> u8 {
+fn measure(rt: &HostRuntime, work: Work, count: u32, length: u32) -> Status {
     let counts = match run(rt.alloc(), work, count, length) {
         Ok(counts) => counts,
         Err(why) => return probe_status(why),
@@ -112,16 +103,16 @@ fn measure(rt: &HostRuntime, work: Work, count: u32, length: u32) -> u8 {
         counts.strings, counts.serial, counts.end
     );
     let Ok(text) = text else {
-        return NO_MEMORY;
+        return Status::Memory;
     };
     tell(rt, text.as_str())
 }
 
 /// Writes a text to standard output.
-fn tell(rt: &HostRuntime, text: &str) -> u8 {
+fn tell(rt: &HostRuntime, text: &str) -> Status {
     let mut out = StdSink::new(rt.stdout());
     match write_all(rt.alloc(), &mut out, text.as_bytes()) {
-        Ok(()) => DONE,
+        Ok(()) => Status::Done,
         Err(why) => write_status(why),
     }
 }
@@ -137,13 +128,13 @@ fn work_of(word: &str) -> Option<Work> {
 }
 
 /// Does what the words ask for.
-fn answer(rt: &HostRuntime, words: &[String]) -> u8 {
+fn answer(rt: &HostRuntime, words: &[String]) -> Status {
     match words {
         [word] => match word.as_str() {
             "slots" => answer_rows(rt),
             "--help" => tell(rt, HELP),
             "--version" => tell(rt, VERSION),
-            _ => BAD_USAGE,
+            _ => Status::Usage,
         },
         [word, count, length] => {
             let work = work_of(word.as_str());
@@ -151,20 +142,21 @@ fn answer(rt: &HostRuntime, words: &[String]) -> u8 {
             let length = length.as_str().parse::<u32>();
             match (work, count, length) {
                 (Some(work), Ok(count), Ok(length)) => measure(rt, work, count, length),
-                _ => BAD_USAGE,
+                _ => Status::Usage,
             }
         }
-        _ => BAD_USAGE,
+        _ => Status::Usage,
     }
 }
 
 fn main(rt: HostRuntime) -> ExitCode {
     let status = match words_of(&rt) {
         Ok(words) => answer(&rt, &words),
-        Err(_) => NO_MEMORY,
+        Err(error) if error.kind() == ErrorKind::OutOfMemory => Status::Memory,
+        Err(_) => Status::Usage,
     };
-    if status == BAD_USAGE {
+    if status == Status::Usage {
         let _ = eprint!(rt; "{USAGE}");
     }
-    ExitCode::from(status)
+    ExitCode::from(status.code())
 }

@@ -4,6 +4,7 @@ ghost use Rattle.sha1.specs.Sha1.{sha1};
 ghost use Rattle.frs_disk.specs.Crashes.{still};
 ghost use Rattle.frs_disk.specs.Moments.{top};
 ghost use Rattle.slot_probe.specs.Found.{IsFound, IsStateOf, spelled};
+ghost use Rattle.slot_probe.specs.declared.probe.ProbeError.TheVariants as errors;
 
 use crate::pile::Pile;
 use frs_base::{Bytes, Sum};
@@ -31,12 +32,16 @@ pub enum ProbeError {
 }
 
 impl From<AllocError> for ProbeError {
+    ghost from_gives = { λ _ error. error ≡ errors.Memory };
+
     fn from(_error: AllocError) -> ProbeError {
         ProbeError::Memory
     }
 }
 
 impl From<Failed> for ProbeError {
+    ghost from_gives = { λ _ error. error ≡ errors.Device };
+
     fn from(_error: Failed) -> ProbeError {
         ProbeError::Device
     }
