@@ -35,7 +35,8 @@ impl Model for Gate {
 
     ghost view = { λ g. record { name = g.table.shared.table_id; limit = g.limit } };
 
-    ghost invariant = { λ g. (0 < g.limit) × (g.limit ≡ g.table.shared.table_id.words) × (g.limit ≡ g.table.shared.key) };
+    ghost invariant = { λ g. (0 < g.limit)
+        × (g.limit ≡ g.table.shared.table_id.words) × (g.limit ≡ g.table.shared.key) };
 }
 
 /// By what a thread enters and leaves a gate. Contracts see its gate's name and its view.
@@ -104,7 +105,8 @@ impl Gate {
         requires { seat.old.name ≡ self.now.name }
         ensures name { seat.new.name ≡ seat.old.name }
         ensures answer { Answers result self.now.limit seat.old.view seat.new.view }
-        ensures alone { alone seat.old.view ≡ 1 → length seat.old.view.places < self.now.limit → HasEntered result }
+        ensures alone { alone seat.old.view ≡ 1
+            → length seat.old.view.places < self.now.limit → HasEntered result }
     {
         for place in 0..self.limit {
             let is_free = if place + 1 == self.limit {
@@ -148,7 +150,8 @@ impl Gate {
     pub fn join_seat(&self, into: &mut GateSeat, from: GateSeat)
         requires into { into.old.name ≡ self.now.name }
         requires from { from.name ≡ self.now.name }
-        ensures { (into.new.name ≡ into.old.name) × (into.new.view ≡ joined into.old.view from.view) }
+        ensures { (into.new.name ≡ into.old.name)
+            × (into.new.view ≡ joined into.old.view from.view) }
     {
         let GateSeat { seat } = from;
         self.table.shared.join_seat::<Joined>(&mut into.seat, seat);

@@ -7,10 +7,12 @@
 #![tactic(auto)]
 
 mod gate;
+mod laws;
 mod rule;
 mod view;
 
 pub use gate::{Entry, Gate, GateSeat};
+pub use laws::seats_have_places_of_their_own;
 pub use view::View;
 
 #[cfg(test)]

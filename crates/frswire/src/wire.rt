@@ -11,9 +11,10 @@ use std::alloc::Global;
 
 /// Reads rows to the end of the input, and writes what answers each of them.
 ///
-/// `words` are those of the command line behind the program's name; there may be none. A row that
-/// asks nothing ends the run: behind the answers before it stands `bad line` and its number, counted
-/// from 1. A row that is too long ends it behind the answers before it. An input of 2^64 bytes is
+/// `words` are those of the command line behind the program's name; there may be none. The whole
+/// input is read before the first answer is written. A row that asks nothing ends the run: behind
+/// the answers before it stands `bad line` and its number, counted from 1. A row that is too long
+/// ends it behind the answers before it. An input of 2^64 bytes is
 /// want of memory.
 pub fn wire_main<S: Source, K: Sink>(
     alloc: Global,
@@ -40,10 +41,12 @@ pub fn wire_main<S: Source, K: Sink>(
     ensures cut_short { (result ≡ Status.WriteFault) → IfSome (S.left input.old) (λ bytes.
         WritesSome bytes (K.taken out.old) (K.taken out.new)) }
     ensures short_of_memory { (result ≡ Status.Memory) → IfSome (S.left input.old) (λ bytes.
-        (K.taken out.new ≡ K.taken out.old) ⊎ WritesSome bytes (K.taken out.old) (K.taken out.new)) }
+        (K.taken out.new ≡ K.taken out.old)
+            ⊎ WritesSome bytes (K.taken out.old) (K.taken out.new)) }
 
     // The causes of the other answers, after which nothing was written.
-    ensures read_fault { result ≡ Status.ReadFault → Rose (S.faults input.old) (S.faults input.new) }
+    ensures read_fault { result ≡ Status.ReadFault
+        → Rose (S.faults input.old) (S.faults input.new) }
     ensures write_fault { result ≡ Status.WriteFault → Rose (K.faults out.old) (K.faults out.new) }
     ensures unwritten { (result ≡ Status.Usage) ⊎ (result ≡ Status.ReadFault)
         → K.taken out.new ≡ K.taken out.old }

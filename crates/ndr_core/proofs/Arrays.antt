@@ -9,8 +9,8 @@ use Rattle.ndr_core.specs.declared.refusal.NdrBad.TheVariants.{Count, Short, Val
 use Rattle.ndr_core.specs.Cursor.{Cursor}
 use Rattle.ndr_core.specs.Items.{◌>>=◌, Item, AreBytes, number, padding, together}
 use Rattle.ndr_core.specs.Arrays.{SpellsMany, appends_many, conformant, many, reads_many, span, varying}
-use Rattle.ndr_core.specs.Laws.{IsLawful, Took, Wrote}
-use Rattle.ndr_core.proofs.Steps.{bind_ok, guard_ok, or_false, good_ok, done, ok_is, AreBytes-drop, AreBytes-take}
+use Rattle.ndr_core.specs.Laws.{GrowAlike, IsLawful, Took, Wrote}
+use Rattle.ndr_core.proofs.Steps.{bind_ok, guard_ok, or_false, good_ok, done, ok_is, alike_length, alike_on, AreBytes-drop, AreBytes-take}
 use Rattle.ndr_core.proofs.Bytes.{number_32_lawful}
 use Rattle.ndr_core.proofs.Words.{◌⊗◌, lawful_together}
 
@@ -47,9 +47,13 @@ many_written item Fits is out (x ∷ xs) fits =
     let place : length (item.appends out x) ≡ length out + length w.text = ap length w.parts ∙ length-append out w.text in
     (w.text ++ v.0, v.1 ∙ ap (λ (r : List ℕ). r ++ v.0) w.parts ∙ append_assoc out w.text v.0, (w.text, v.0, refl, w.spells, subst (λ (at : ℕ). SpellsMany item.Spells at xs v.0) place v.2))
 
-many_sized : {A : Type 0} (item : Item A) (Fits : A → Type 0) → IsLawful item Fits → (x y : List ℕ) (xs : List A) → length x ≡ length y → length (appends_many item.appends x xs) ≡ length (appends_many item.appends y xs)
-many_sized item Fits is x y [] e = e
-many_sized item Fits is x y (v ∷ vs) e = many_sized item Fits is (item.appends x v) (item.appends y v) vs (is.sized x y v e)
+many_placed : {A : Type 0} (item : Item A) (Fits : A → Type 0) → IsLawful item Fits → (x y : List ℕ) (xs : List A) → length x ≡ length y → GrowAlike x y (appends_many item.appends x xs) (appends_many item.appends y xs)
+many_placed item Fits is x y [] e = ([], sym (append-nil x), sym (append-nil y))
+many_placed item Fits is x y (v ∷ vs) e =
+    let p : List ℕ = item.appends x v in
+    let q : List ℕ = item.appends y v in
+    let f = is.placed x y v e in
+    alike_on x y p q (appends_many item.appends p vs) (appends_many item.appends q vs) f (many_placed item Fits is p q vs (alike_length x y p q e f))
 
 pub many_lawful : {A : Type 0} (item : Item A) (count : ℕ) (Fits : A → Type 0) → IsLawful item Fits → IsLawful (many item count) (λ xs. (length xs ≡ count) × AllByRecursion Fits xs)
 many_lawful item count Fits is = record {
@@ -58,7 +62,7 @@ many_lawful item count Fits is = record {
   written = λ out xs fits.
       let w = many_written item Fits is out xs fits.1 in
       record { text = w.0; parts = w.1; spells = (fits.0, w.2) };
-  sized = many_sized item Fits is;
+  placed = many_placed item Fits is;
 }
 
 pub lawful_many : {A : Type 0} {item : Item A} {Fits : A → Type 0} (count : ℕ) → IsLawful item Fits → IsLawful (many item count) (λ xs. (length xs ≡ count) × AllByRecursion Fits xs)
@@ -80,7 +84,7 @@ conformant_lawful limit = record {
   written = λ out a fits.
       let w = number_32_lawful.written out a fits.1 in
       record { text = w.text; parts = w.parts; spells = (fits.0, w.spells) };
-  sized = number_32_lawful.sized;
+  placed = number_32_lawful.placed;
 }
 
 -- offset and count
@@ -110,5 +114,5 @@ varying_lawful limit = record {
   written = λ out a fits.
       let w = span_lawful.written out (0, a) (lit< tt, fits.1) in
       record { text = w.text; parts = w.parts; spells = (fits.0, w.spells) };
-  sized = λ x y a e. span_lawful.sized x y (0, a) e;
+  placed = λ x y a e. span_lawful.placed x y (0, a) e;
 }

@@ -8,7 +8,7 @@ use Rattle.ndr_core.specs.declared.refusal.NdrBad.{NdrBad}
 use Rattle.ndr_core.specs.declared.refusal.NdrBad.TheVariants.{Count, Short, Value}
 use Rattle.ndr_core.specs.Cursor.{Cursor}
 use Rattle.ndr_core.specs.Items.{AreBytes, bytes_of, chunk, number, number_at, padded, padding, skip, zeros}
-use Rattle.ndr_core.specs.Laws.{IsLawful, Took, Wrote}
+use Rattle.ndr_core.specs.Laws.{GrowAlike, IsLawful, Took, Wrote}
 use Rattle.ndr_core.proofs.Steps.{bind_ok, guard_ok, good_ok, done, ok_is, AreBytes-drop, AreBytes-take}
 use Rattle.ndr_core.proofs.Words.{seen_lawful}
 
@@ -57,18 +57,15 @@ chunk_written size count out a fits = record {
   spells = (zeros (padding size (length out)), length-replicate (padding size (length out)), fits.0, fits.1, refl);
 }
 
-zeros_size : (size : ℕ) (x y : List ℕ) → length x ≡ length y → length (x ++ zeros (padding size (length x))) ≡ length (y ++ zeros (padding size (length y)))
-zeros_size size x y e =
-    let p : padding size (length x) ≡ padding size (length y) = ap (padding size) e in
-    length-append x (zeros (padding size (length x))) ∙ omega (arith, e, p, length-replicate (padding size (length x)), length-replicate (padding size (length y))) ∙ sym (length-append y (zeros (padding size (length y))))
-
-padded_size : (size : ℕ) (x y a : List ℕ) → length x ≡ length y → length (x ++ zeros (padding size (length x)) ++ a) ≡ length (y ++ zeros (padding size (length y)) ++ a)
-padded_size size x y a e =
-    let p = zeros_size size x y e in
-    length-append (x ++ zeros (padding size (length x))) a ∙ ap (λ (n : ℕ). n + length a) p ∙ sym (length-append (y ++ zeros (padding size (length y))) a)
+chunk_placed : (size : ℕ) (x y a : List ℕ) → length x ≡ length y → GrowAlike x y (x ++ zeros (padding size (length x)) ++ a) (y ++ zeros (padding size (length y)) ++ a)
+chunk_placed size x y a e = (
+  zeros (padding size (length x)) ++ a,
+  append_assoc x (zeros (padding size (length x))) a,
+  append_assoc y (zeros (padding size (length y))) a ∙ ap (λ (n : ℕ). y ++ (zeros (padding size n) ++ a)) (sym e),
+)
 
 pub chunk_lawful : (size count : ℕ) → IsLawful (chunk size count) (HasBytes count)
-chunk_lawful size count = record { sound = chunk_sound size count; whole = chunk_whole size count; written = chunk_written size count; sized = λ x y a e. padded_size size x y a e }
+chunk_lawful size count = record { sound = chunk_sound size count; whole = chunk_whole size count; written = chunk_written size count; placed = chunk_placed size }
 
 -- ---- bytes and reserved bytes
 
@@ -91,7 +88,7 @@ bytes_of_lawful count = record {
       let long : ltb (length (text ++ rest)) count ≡ false = le-ltb _ _ (omega (arith, length-append text rest)) in
       rw (long, take_at text rest count size_is, drop_at text rest count size_is, size_is, spells.2) refl;
   written = λ out a fits. record { text = a; parts = refl; spells = (fits.0, fits.1, refl) };
-  sized = λ x y a e. omega (arith, e, length-append x a, length-append y a);
+  placed = λ x y a e. (a, refl, refl);
 }
 
 pub skip_lawful : (count : ℕ) → IsLawful (skip count) (λ a. Unit {0})
@@ -112,7 +109,7 @@ skip_lawful count = record {
       let long : ltb (length (text ++ rest)) count ≡ false = le-ltb _ _ (omega (arith, length-append text rest)) in
       rw (long, drop_at text rest count spells, spells) refl;
   written = λ out a fits. record { text = zeros count; parts = refl; spells = length-replicate count };
-  sized = λ x y a e. omega (arith, e, length-append x (zeros count), length-append y (zeros count));
+  placed = λ x y a e. (zeros count, refl, refl);
 }
 
 pub padded_lawful : (size : ℕ) → IsLawful (padded size) (λ a. Unit {0})
@@ -122,7 +119,7 @@ padded_lawful size = record {
       record { text = t.text; parts = t.parts; place = t.place; bytes = t.bytes; spells = t.spells };
   whole = λ at a text rest spells. (skip_lawful (padding size at)).whole at a text rest spells;
   written = λ out a fits. record { text = zeros (padding size (length out)); parts = refl; spells = length-replicate (padding size (length out)) };
-  sized = λ x y a e. zeros_size size x y e;
+  placed = λ x y a e. (zeros (padding size (length x)), refl, ap (λ (n : ℕ). y ++ zeros (padding size n)) (sym e));
 }
 
 -- ---- numbers
@@ -152,7 +149,7 @@ record IsWide (w : Width) (limit : ℕ) : Type 0 where
 number_lawful_by : (size : ℕ) (w : Width) (limit : ℕ) → IsWide w limit → IsLawful (number_at size w) (λ n. n < limit)
 number_lawful_by size w limit wide =
     let is = seen_lawful (from_le_bytes w) (to_le_bytes w) (chunk size (byte_len w)) (HasBytes (byte_len w)) (chunk_lawful size (byte_len w)) (λ at a text spells. wide.back a spells.2 spells.3) in
-    record { sound = is.sound; whole = is.whole; written = λ out n lt. is.written out n (wide.again n lt, (wide.len n, wide.small n)); sized = is.sized }
+    record { sound = is.sound; whole = is.whole; written = λ out n lt. is.written out n (wide.again n lt, (wide.len n, wide.small n)); placed = is.placed }
 
 pub number_32_lawful : IsLawful (number w32) (λ n. n < 2 ^ 32)
 number_32_lawful = number_lawful_by 4 w32 (2 ^ 32) (record { len = λ n. refl; small = λ n. small_bytes 0 4 n; back = λ bytes len fits. le_bytes_4 bytes _ len fits refl; again = λ n lt. from_le_bytes-to_le_bytes_4 n lt })

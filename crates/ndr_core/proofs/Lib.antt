@@ -7,3 +7,4 @@ pub mod Text
 pub mod Optional
 pub mod Whole
 pub mod Loops
+pub mod OneSpelling

@@ -5,7 +5,7 @@ use Rattle.std.specs.Int.{to_le_bytes, w32}
 use Rattle.std.proofs.lemmas.List.{append-nil}
 use Rattle.ndr_core.specs.Cursor.{Cursor}
 use Rattle.ndr_core.specs.Items.{◌>>=◌, AreBytes, Item, followed, number}
-use Rattle.ndr_core.specs.Laws.{IsLawful, Took, Wrote}
+use Rattle.ndr_core.specs.Laws.{GrowAlike, IsLawful, Took, Wrote}
 use Rattle.ndr_core.specs.Pointers.{append_if, is_some, optional, referent, unique, when}
 use Rattle.ndr_core.proofs.Steps.{bind_ok, done, ok_is}
 use Rattle.ndr_core.proofs.Words.{lawful_seen, lawful_then, lawful_where}
@@ -30,7 +30,7 @@ unique_lawful = record {
   written = λ out present fits.
       let w = number_32_lawful.written out (referent present) (referent_small present) in
       record { text = w.text; parts = w.parts; spells = (referent present, referent_is present, w.spells) };
-  sized = λ x y present e. number_32_lawful.sized x y (referent present) e;
+  placed = λ x y present e. number_32_lawful.placed x y (referent present) e;
 }
 
 abbrev FitsWhen : {A : Type 0} → (A → Type 0) → Bool → Option A → Type 0
@@ -46,9 +46,9 @@ none_written : {A : Type 0} (item : Item A) (Fits : A → Type 0) (out : List �
 none_written item Fits out None fits = record { text = []; parts = sym (append-nil out); spells = (refl, refl) }
 none_written item Fits out (Some a) fits = let e : true ≡ false = fits.0 in absurd cc
 
-if_sized : {A : Type 0} (item : Item A) (Fits : A → Type 0) → IsLawful item Fits → (x y : List ℕ) (v : Option A) → length x ≡ length y → length (append_if item.appends x v) ≡ length (append_if item.appends y v)
-if_sized item Fits is x y None e = e
-if_sized item Fits is x y (Some a) e = is.sized x y a e
+if_placed : {A : Type 0} (item : Item A) (Fits : A → Type 0) → IsLawful item Fits → (x y : List ℕ) (v : Option A) → length x ≡ length y → GrowAlike x y (append_if item.appends x v) (append_if item.appends y v)
+if_placed item Fits is x y None e = ([], sym (append-nil x), sym (append-nil y))
+if_placed item Fits is x y (Some a) e = is.placed x y a e
 
 when_lawful : {A : Type 0} (item : Item A) (Fits : A → Type 0) → IsLawful item Fits → (present : Bool) → IsLawful (when present item) (FitsWhen Fits present)
 when_lawful {A = A} item Fits is true = record {
@@ -61,7 +61,7 @@ when_lawful {A = A} item Fits is true = record {
       ap (λ r. r >>= λ x. done {A = Option A × Cursor} (Some x.0, x.1)) (is.whole at s.0 text rest s.2)
       ∙ ap (λ (u : Option A). done {A = Option A × Cursor} (u, record { at = at + length text; rest = rest })) (sym s.1);
   written = λ out v fits. there_written item Fits is out v fits;
-  sized = if_sized item Fits is;
+  placed = if_placed item Fits is;
 }
 when_lawful {A = A} item Fits is false = record {
   sound = λ old new v are e.
@@ -72,7 +72,7 @@ when_lawful {A = A} item Fits is false = record {
       let bytes : text ++ rest ≡ rest = ap (λ (t : List ℕ). t ++ rest) s.1 in
       λ i. done {A = Option A × Cursor} (sym s.0 i, record { at = place i; rest = bytes i });
   written = λ out v fits. none_written item Fits out v fits;
-  sized = if_sized item Fits is;
+  placed = if_placed item Fits is;
 }
 
 same_present : {A : Type 0} (item : Item A) (at : ℕ) (present : Bool) (v : Option A) (text : List ℕ) → (when present item).Spells at v text → is_some v ≡ present

@@ -1,10 +1,11 @@
--- Steps of a read that succeeded, and the bytes that are left.
+-- Steps of a read that succeeded, the bytes that are left, and bytes that are written behind others.
 use Rattle.std.proofs.Common.{◌≡◌, ℕ, zero, suc, ◌+◌, ◌-◌, ◌%◌, ◌^◌, ◌<◌, ◌≤◌, Bool, true, false, cond, ◌&&◌, ◌||◌, eqb, eq-eqb, ltb, List, [], ◌∷◌, ◌++◌, length, take, drop, Result, Ok, Err, refl, sym, ap, subst, ◌∙◌, append_assoc, arith, inl, inr, lit<}
 use Rattle.std.proofs.lemmas.Bool.{cases_lt, eqb-true, ltb-false, le-ltb}
 use Rattle.std.proofs.lemmas.List.{take_at, drop_at, take-append-drop, length-append, length-take, length-drop, get_or-drop, get_or-take, get_or_past, drop-drop, append-nil}
 use Rattle.ndr_core.specs.declared.refusal.NdrBad.{NdrBad}
 use Rattle.ndr_core.specs.declared.refusal.NdrBad.TheVariants.{Count, Short, Value}
 use Rattle.ndr_core.specs.Items.{◌>>=◌, AreBytes}
+use Rattle.ndr_core.specs.Laws.{GrowAlike}
 
 pub bind_ok : {A B : Type 0} (r : Result A NdrBad) (f : A → Result B NdrBad) (y : B) → (r >>= f) ≡ Ok y → (x : A) × (r ≡ Ok x) × (f x ≡ Ok y)
 bind_ok (Ok x) f y e = (x, refl, e)
@@ -41,3 +42,17 @@ or_false false b e = (refl, e)
 pub both_of : (a b : Bool) → (a && b) ≡ true → (a ≡ true) × (b ≡ true)
 both_of true b e = (refl, e)
 both_of false b e = absurd cc
+
+-- ---- what is written behind bytes
+
+-- bytes that grow alike stay of one length
+pub alike_length : (x y p q : List ℕ) → length x ≡ length y → GrowAlike x y p q → length p ≡ length q
+alike_length x y p q e alike = omega (arith, e, ap length alike.1, length-append x alike.0, ap length alike.2, length-append y alike.0)
+
+-- and may go on growing alike
+pub alike_on : (x y p q r s : List ℕ) → GrowAlike x y p q → GrowAlike p q r s → GrowAlike x y r s
+alike_on x y p q r s first more = (
+  first.0 ++ more.0,
+  more.1 ∙ ap (λ (t : List ℕ). t ++ more.0) first.1 ∙ append_assoc x first.0 more.0,
+  more.2 ∙ ap (λ (t : List ℕ). t ++ more.0) first.2 ∙ append_assoc y first.0 more.0,
+)

@@ -117,5 +117,5 @@ string_lawful limit = record {
   written = λ out text is.
       let w = raw_lawful.written out (of_text text) ((lit< tt, is.fits), (length-append text (0 ∷ []), units_small text is.units)) in
       record { text = w.text; parts = w.parts; spells = (is.short, ended text is.no_zero, w.spells) };
-  sized = λ x y text e. raw_lawful.sized x y (of_text text) e;
+  placed = λ x y text e. raw_lawful.placed x y (of_text text) e;
 }

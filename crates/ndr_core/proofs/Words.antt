@@ -7,7 +7,7 @@ use Rattle.ndr_core.specs.declared.refusal.NdrBad.TheVariants.{Count, Short, Val
 use Rattle.ndr_core.specs.Cursor.{Cursor}
 use Rattle.ndr_core.specs.Items.{◌>>=◌, ◌⨾◌, Item, AreBytes, checked, fixed, followed, padding, seen, short_at, together}
 use Rattle.ndr_core.specs.Laws.{IsLawful, Took, Wrote}
-use Rattle.ndr_core.proofs.Steps.{bind_ok, guard_ok, good_ok, done, ok_is, AreBytes-drop, AreBytes-take}
+use Rattle.ndr_core.proofs.Steps.{bind_ok, guard_ok, good_ok, done, ok_is, alike_length, alike_on, AreBytes-drop, AreBytes-take}
 
 pub seen_lawful : {A B : Type 0} (to : A → B) (from : B → A) (item : Item A) (Fits : A → Type 0) → IsLawful item Fits → ((at : ℕ) (a : A) (text : List ℕ) → item.Spells at a text → from (to a) ≡ a)
     → IsLawful (seen to from item) (λ b. (to (from b) ≡ b) × Fits (from b))
@@ -22,7 +22,7 @@ seen_lawful {A = A} {B = B} to from item Fits is back = record {
   written = λ out b fits.
       let w = is.written out (from b) fits.1 in
       record { text = w.text; parts = w.parts; spells = (fits.0, w.spells) };
-  sized = λ x y b e. is.sized x y (from b) e;
+  placed = λ x y b e. is.placed x y (from b) e;
 }
 
 pub followed_lawful : {A B : Type 0} (first : Item A) (second : A → Item B) (Fits : A → Type 0) (Fits2 : A → B → Type 0) → IsLawful first Fits → ((a : A) → IsLawful (second a) (Fits2 a))
@@ -54,7 +54,11 @@ followed_lawful {A = A} {B = B} first second Fits Fits2 is are2 = record {
         parts = v.parts ∙ ap (λ (r : List ℕ). r ++ v.text) w.parts ∙ append_assoc out w.text v.text;
         spells = (w.text, v.text, refl, w.spells, subst (λ (at : ℕ). (second ab.0).Spells at ab.1 v.text) place v.spells);
       };
-  sized = λ x y ab e. (are2 ab.0).sized (first.appends x ab.0) (first.appends y ab.0) ab.1 (is.sized x y ab.0 e);
+  placed = λ x y ab e.
+      let p : List ℕ = first.appends x ab.0 in
+      let q : List ℕ = first.appends y ab.0 in
+      let f = is.placed x y ab.0 e in
+      alike_on x y p q ((second ab.0).appends p ab.1) ((second ab.0).appends q ab.1) f ((are2 ab.0).placed p q ab.1 (alike_length x y p q e f));
 }
 
 pub checked_lawful : {A : Type 0} (size : ℕ) (good : A → Bool) (item : Item A) (Fits : A → Type 0) → IsLawful item Fits → IsLawful (checked size good item) (λ a. (good a ≡ true) × Fits a)
@@ -69,7 +73,7 @@ checked_lawful {A = A} size good item Fits is = record {
   written = λ out a fits.
       let w = is.written out a fits.1 in
       record { text = w.text; parts = w.parts; spells = (fits.0, w.spells) };
-  sized = is.sized;
+  placed = is.placed;
 }
 
 short_ok : {A : Type 0} (at : ℕ) (read : Result A NdrBad) (x : A) → short_at at read ≡ Ok x → read ≡ Ok x
@@ -78,7 +82,7 @@ short_ok at (Err d) x e = absurd cc
 
 -- under another condition
 pub lawful_under : {A : Type 0} (item : Item A) (Fits Holds : A → Type 0) → IsLawful item Fits → ((a : A) → Holds a → Fits a) → IsLawful item Holds
-lawful_under item Fits Holds is implies = record { sound = is.sound; whole = is.whole; written = λ out a holds. is.written out a (implies a holds); sized = is.sized }
+lawful_under item Fits Holds is implies = record { sound = is.sound; whole = is.whole; written = λ out a holds. is.written out a (implies a holds); placed = is.placed }
 
 -- ---- short forms, for forms of many items
 
@@ -111,7 +115,7 @@ lawful_fixed {item = item} {Fits = Fits} size n is = record {
   written = λ out a fits.
       let w = is.written out n fits in
       record { text = w.text; parts = w.parts; spells = w.spells };
-  sized = λ x y a e. is.sized x y n e;
+  placed = λ x y a e. is.placed x y n e;
 }
 
 pub lawful_together : {A : Type 0} {item : Item A} {Fits : A → Type 0} (size : ℕ) → IsLawful item Fits → IsLawful (together size item) Fits
@@ -123,5 +127,5 @@ lawful_together {A = A} {item = item} {Fits = Fits} size is = record {
   written = λ out a fits.
       let w = is.written out a fits in
       record { text = w.text; parts = w.parts; spells = w.spells };
-  sized = is.sized;
+  placed = is.placed;
 }

@@ -1,5 +1,5 @@
 -- What holds of an item.
-use Rattle.std.specs.Prelude.{◌≡◌, ◌+◌, ℕ, List, [], ◌++◌, Ok, length}
+use Rattle.std.specs.Prelude.{◌≡◌, ◌⊎◌, ◌+◌, ◌<◌, ℕ, List, [], ◌++◌, Ok, length, slice_index, slice_set}
 use Rattle.ndr_core.specs.Cursor.{Cursor}
 use Rattle.ndr_core.specs.Items.{AreBytes, Item}
 use Rattle.ndr_core.specs.Calls.{reads_all}
@@ -18,12 +18,27 @@ pub record Wrote {A : Type 0} (item : Item A) (out : List ℕ) (a : A) : Type 0 
   pub parts : item.appends out a ≡ out ++ text
   pub spells : item.Spells (length out) a text
 
--- what is read is spelled; what is spelled is read, whatever follows; what is written is spelled; and a value takes as many bytes behind any as many
+-- behind these bytes and behind those the same were written
+abbrev pub GrowAlike : List ℕ → List ℕ → List ℕ → List ℕ → Type 0
+GrowAlike x y p q = (text : List ℕ) × (p ≡ x ++ text) × (q ≡ y ++ text)
+
+-- what is read is spelled; what is spelled is read, whatever follows; what is written is spelled; and a value is written as the same bytes behind any as many
 pub record IsLawful {A : Type 0} (item : Item A) (Fits : A → Type 0) : Type 0 where
   pub sound : (old new : Cursor) (a : A) → AreBytes old.rest → item.reads old ≡ Ok (a, new) → Took item old a new
   pub whole : (at : ℕ) (a : A) (text rest : List ℕ) → item.Spells at a text → item.reads (record { at = at; rest = text ++ rest }) ≡ Ok (a, record { at = at + length text; rest = rest })
   pub written : (out : List ℕ) (a : A) → Fits a → Wrote item out a
-  pub sized : (x y : List ℕ) (a : A) → length x ≡ length y → length (item.appends x a) ≡ length (item.appends y a)
+  pub placed : (x y : List ℕ) (a : A) → length x ≡ length y → GrowAlike x y (item.appends x a) (item.appends y a)
+
+-- ---- spellings of one value
+
+-- texts of one length that differ only in bytes of which each may be any but 0
+pub record DifferInFree (Spells : List ℕ → Type 0) (x y : List ℕ) : Type 0 where
+  pub long : length x ≡ length y
+  pub each : (i : ℕ) → (slice_index x i ≡ slice_index y i) ⊎ ((byte : ℕ) → 0 < byte → byte < 256 → Spells (slice_set x i byte))
+
+-- a value has one spelling at a place, but for padding, reserved bytes and what a pointer that isn't null is written as
+pub record HasOneSpelling {A : Type 0} (item : Item A) : Type 0 where
+  pub alike : (at : ℕ) (a : A) (x y : List ℕ) → item.Spells at a x → item.Spells at a y → DifferInFree (item.Spells at a) x y
 
 -- ---- whole bytes
 

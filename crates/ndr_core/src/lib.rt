@@ -18,6 +18,7 @@ mod writer;
 pub use handle::ContextHandle;
 pub use laws::{
     headers_are_lawful, identifiers_are_lawful, numbers_are_lawful, strings_are_lawful,
+    values_have_one_spelling,
 };
 pub use reader::Reader;
 pub use refusal::{NdrBad, NdrError};

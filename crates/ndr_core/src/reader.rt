@@ -60,6 +60,7 @@ impl<'a> Reader<'a> {
     }
 
     /// A second reader at this place.
+    #[inline(always)]
     pub(crate) fn here(&self) -> Reader<'a>
         ensures { result ≡ self.now }
     {
@@ -77,6 +78,7 @@ impl<'a> Reader<'a> {
     }
 
     /// Where an item that is aligned so begins.
+    #[inline(always)]
     pub fn place_of(&self, to: usize) -> usize
         requires some { 0 < to }
         requires small { to < 256 }
@@ -86,6 +88,7 @@ impl<'a> Reader<'a> {
     }
 
     /// An array of bytes behind padding to a multiple of `size`.
+    #[inline(always)]
     fn take_chunk<const N: usize>(&mut self, size: usize) -> Result<[u8; N], NdrBad>
         requires some { 0 < size }
         requires small { size < 256 }
@@ -106,6 +109,7 @@ impl<'a> Reader<'a> {
     }
 
     /// A byte.
+    #[inline(always)]
     pub fn take_u8(&mut self) -> Result<u8, NdrBad>
         ensures { Takes (λ x. x) (number w8) result self.old self.new }
     {
@@ -113,6 +117,7 @@ impl<'a> Reader<'a> {
     }
 
     /// A byte that is aligned like a longer item.
+    #[inline(always)]
     pub fn take_u8_behind(&mut self, to: u32) -> Result<u8, NdrBad>
         requires { (to ≡ 4) ⊎ (to ≡ 8) }
         ensures { Takes (λ x. x) (number_at to w8) result self.old self.new }
@@ -121,6 +126,7 @@ impl<'a> Reader<'a> {
     }
 
     /// A number of two bytes.
+    #[inline(always)]
     pub fn take_u16(&mut self) -> Result<u16, NdrBad>
         ensures { Takes (λ x. x) (number w16) result self.old self.new }
     {
@@ -128,6 +134,7 @@ impl<'a> Reader<'a> {
     }
 
     /// A number of four bytes.
+    #[inline(always)]
     pub fn take_u32(&mut self) -> Result<u32, NdrBad>
         ensures { Takes (λ x. x) (number w32) result self.old self.new }
     {
@@ -135,6 +142,7 @@ impl<'a> Reader<'a> {
     }
 
     /// A number of eight bytes.
+    #[inline(always)]
     pub fn take_u64(&mut self) -> Result<u64, NdrBad>
         ensures { Takes (λ x. x) (number w64) result self.old self.new }
     {
@@ -142,6 +150,7 @@ impl<'a> Reader<'a> {
     }
 
     /// The bytes of a UUID, in the order of its text.
+    #[inline(always)]
     fn take_uuid(&mut self) -> Result<Uuid, NdrBad>
         ensures { Takes (λ x. x) uuid_item result self.old self.new }
     {
@@ -149,6 +158,7 @@ impl<'a> Reader<'a> {
     }
 
     /// A UUID: its first three fields are numbers, so their bytes stand in reverse.
+    #[inline(always)]
     pub fn take_guid(&mut self) -> Result<Guid, NdrBad>
         ensures { Takes (λ x. x) guid_item result self.old self.new }
     {
@@ -180,6 +190,7 @@ impl<'a> Reader<'a> {
     }
 
     /// So many bytes without padding.
+    #[inline]
     pub fn take_array<const N: usize>(&mut self) -> Result<[u8; N], NdrBad>
         ensures { Takes (λ x. x) (chunk 1 N) result self.old self.new }
     {
@@ -187,6 +198,7 @@ impl<'a> Reader<'a> {
     }
 
     /// So many bytes, without padding, that aren't looked at.
+    #[inline(always)]
     pub fn take_reserved(&mut self, count: usize) -> Result<(), NdrBad>
         ensures { Takes (λ x. tt) (skip count) result self.old self.new }
     {
@@ -213,6 +225,7 @@ impl<'a> Reader<'a> {
     }
 
     /// The padding alone. It is refused at the reader's own place.
+    #[inline(always)]
     pub fn align(&mut self, to: u32) -> Result<(), NdrBad>
         requires { (to ≡ 4) ⊎ (to ≡ 8) }
         ensures { Takes (λ x. tt) (padded to) result self.old self.new }
@@ -228,6 +241,7 @@ impl<'a> Reader<'a> {
     }
 
     /// The count of a conformant array, at most `limit`.
+    #[inline]
     pub fn take_conformant(&mut self, limit: u32) -> Result<u32, NdrBad>
         ensures { Takes (λ x. x) (conformant limit) result self.old self.new }
     {
@@ -242,6 +256,7 @@ impl<'a> Reader<'a> {
     }
 
     /// The offset and the count of a varying array.
+    #[inline]
     pub(crate) fn span(&mut self) -> Result<(u32, u32), NdrBad>
         ensures { Reads (λ x. x) span result self.old self.new }
     {
@@ -252,6 +267,7 @@ impl<'a> Reader<'a> {
 
     /// The count of a varying array, at most `limit`, behind its offset 0. Both are refused as a
     /// whole.
+    #[inline]
     pub fn take_varying(&mut self, limit: u32) -> Result<u32, NdrBad>
         ensures { Takes (λ x. x) (varying limit) result self.old self.new }
     {
@@ -267,6 +283,7 @@ impl<'a> Reader<'a> {
     }
 
     /// Whether a unique pointer isn't null.
+    #[inline]
     pub fn take_unique(&mut self) -> Result<bool, NdrBad>
         ensures { Takes (λ x. x) unique result self.old self.new }
     {

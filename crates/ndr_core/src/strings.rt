@@ -75,7 +75,8 @@ impl Writer {
     pub fn put_string(&mut self, units: &[u16]) -> Result<(), AllocError>
         requires text { HasNoZero units.now }
         requires short { length units.now + 1 < 2 ^ 32 }
-        ensures { OnOk result (self.new ≡ (string (length units.now + 1)).appends self.old units.now) }
+        ensures { OnOk result
+            (self.new ≡ (string (length units.now + 1)).appends self.old units.now) }
     {
         self.put_varying(units.len() as u32 + 1)?;
         put_many::<u16>(self, units)?;

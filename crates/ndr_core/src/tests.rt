@@ -61,7 +61,7 @@ const FRS_TRANSPORT: u128 = 0x897e2e5f_93f3_4376_9c9c_fd2277495c27;
 
 fn write_items(alloc: Global) -> Result<Vec<u8>, AllocError> {
     let id = Guid::of_number(FRS_TRANSPORT);
-    let mut out = Writer::new(alloc);
+    let mut out = Writer::with_capacity(alloc, 8)?;
     out.put_u8(0x01)?;
     out.put_u16(0x0203)?;
     out.put_u32(0x0405_0607)?;
@@ -71,6 +71,7 @@ fn write_items(alloc: Global) -> Result<Vec<u8>, AllocError> {
         attributes: 0x10,
         id,
     })?;
+    out.reserve(32)?;
     out.put_conformant(3)?;
     out.put_varying(2)?;
     out.put_unique(true)?;

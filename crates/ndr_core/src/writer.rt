@@ -1,5 +1,5 @@
 // Writing items, one behind the other.
-ghost use Rattle.std.specs.Prelude.{◌≡◌, ◌<◌, ◌⊎◌, OnOk, [], length};
+ghost use Rattle.std.specs.Prelude.{◌≡◌, ◌<◌, ◌⊎◌, IfOk, OnOk, [], length};
 ghost use Rattle.std.specs.Int.{w8, w16, w32, w64};
 ghost use Rattle.ndr_core.specs.Items.{bytes_of, chunk, number, number_at, padded, skip};
 ghost use Rattle.ndr_core.specs.Calls.{Writes};
@@ -43,6 +43,21 @@ impl Writer {
         }
     }
 
+    /// No bytes, with room for so many.
+    pub fn with_capacity(alloc: Global, capacity: usize) -> Result<Writer, AllocError>
+        ensures { IfOk result (λ w. w ≡ []) }
+    {
+        let bytes = Vec::with_capacity(alloc, capacity)?;
+        Ok(Writer { bytes })
+    }
+
+    /// Makes room for so many bytes more.
+    pub fn reserve(&mut self, more: usize) -> Result<(), AllocError>
+        ensures { self.new ≡ self.old }
+    {
+        self.bytes.reserve(more)
+    }
+
     /// The bytes.
     pub fn into_vec(self) -> Vec<u8>
         ensures { result.items ≡ self }
@@ -51,6 +66,7 @@ impl Writer {
     }
 
     /// So many zeros.
+    #[inline(always)]
     fn put_zeros(&mut self, count: usize) -> Result<(), AllocError>
         requires { count < 256 }
         ensures { Writes (skip count) tt result self.old self.new }
@@ -59,6 +75,7 @@ impl Writer {
     }
 
     /// Bytes behind padding to a multiple of `size`.
+    #[inline(always)]
     fn put_chunk(&mut self, size: usize, bytes: &[u8]) -> Result<(), AllocError>
         requires some { 0 < size }
         requires small { size < 256 }
@@ -75,6 +92,7 @@ impl Writer {
     }
 
     /// A byte.
+    #[inline(always)]
     pub fn put_u8(&mut self, value: u8) -> Result<(), AllocError>
         ensures { Writes (number w8) value result self.old self.new }
     {
@@ -82,6 +100,7 @@ impl Writer {
     }
 
     /// A byte that is aligned like a longer item.
+    #[inline(always)]
     pub fn put_u8_behind(&mut self, to: u32, value: u8) -> Result<(), AllocError>
         requires { (to ≡ 4) ⊎ (to ≡ 8) }
         ensures { Writes (number_at to w8) value result self.old self.new }
@@ -90,6 +109,7 @@ impl Writer {
     }
 
     /// A number of two bytes.
+    #[inline(always)]
     pub fn put_u16(&mut self, value: u16) -> Result<(), AllocError>
         ensures { Writes (number w16) value result self.old self.new }
     {
@@ -97,6 +117,7 @@ impl Writer {
     }
 
     /// A number of four bytes.
+    #[inline(always)]
     pub fn put_u32(&mut self, value: u32) -> Result<(), AllocError>
         ensures { Writes (number w32) value result self.old self.new }
     {
@@ -104,6 +125,7 @@ impl Writer {
     }
 
     /// A number of eight bytes.
+    #[inline(always)]
     pub fn put_u64(&mut self, value: u64) -> Result<(), AllocError>
         ensures { Writes (number w64) value result self.old self.new }
     {
@@ -111,6 +133,7 @@ impl Writer {
     }
 
     /// The bytes of a UUID, in the wire's order.
+    #[inline(always)]
     fn put_uuid(&mut self, id: Uuid) -> Result<(), AllocError>
         ensures { Writes uuid_item id result self.old self.new }
     {
@@ -118,6 +141,7 @@ impl Writer {
     }
 
     /// A UUID.
+    #[inline(always)]
     pub fn put_guid(&mut self, id: Guid) -> Result<(), AllocError>
         ensures { Writes guid_item id result self.old self.new }
     {
@@ -140,6 +164,7 @@ impl Writer {
     }
 
     /// An array of bytes, which needs no padding.
+    #[inline(always)]
     pub fn put_array(&mut self, bytes: &[u8]) -> Result<(), AllocError>
         ensures { Writes (chunk 1 (length bytes.now)) bytes.now result self.old self.new }
     {
@@ -147,6 +172,7 @@ impl Writer {
     }
 
     /// So many reserved bytes, which are zeros.
+    #[inline(always)]
     pub fn put_reserved(&mut self, count: usize) -> Result<(), AllocError>
         requires { count < 256 }
         ensures { Writes (skip count) tt result self.old self.new }
@@ -155,6 +181,7 @@ impl Writer {
     }
 
     /// The padding alone.
+    #[inline(always)]
     pub fn align(&mut self, to: u32) -> Result<(), AllocError>
         requires { (to ≡ 4) ⊎ (to ≡ 8) }
         ensures { Writes (padded to) tt result self.old self.new }

@@ -6,3 +6,6 @@ pub mod Requests
 pub mod Replies
 pub mod Stated
 pub mod Written
+pub mod OneShared
+pub mod OneRequest
+pub mod OneReply

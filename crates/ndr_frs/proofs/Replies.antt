@@ -1,7 +1,8 @@
 -- Replies keep the laws.
-use Rattle.std.proofs.Common.{◌≡◌, ◌∙◌, ℕ, ◌^◌, ◌<◌, ◌==◌, ◌||◌, true, eqb, List, [], Option, None, Some, Result, Ok, Err, length, inl, inr, refl, sym, ap, arith}
+use Rattle.std.proofs.Common.{◌≡◌, ◌∙◌, ℕ, ◌+◌, ◌^◌, ◌<◌, ◌==◌, ◌||◌, true, eqb, List, [], ◌++◌, Option, None, Some, Result, Ok, Err, length, inl, inr, refl, sym, ap, arith}
 use Rattle.std.specs.Prelude.{IfSome}
 use Rattle.std.proofs.lemmas.Bool.{eqb-true}
+use Rattle.std.proofs.lemmas.List.{append-nil, nil_from_length}
 use Rattle.version_vector.specs.declared.interval.Interval.{Interval}
 use Rattle.ndr_core.specs.Cursor.{Cursor}
 use Rattle.ndr_core.specs.Items.{AreBytes}
@@ -10,16 +11,17 @@ use Rattle.ndr_core.proofs.Bytes.{number_32_lawful, number_64_lawful}
 use Rattle.ndr_core.proofs.Identifiers.{guid_lawful, handle_lawful}
 use Rattle.ndr_core.proofs.Optional.{optional_lawful}
 use Rattle.ndr_core.proofs.Words.{◌⊗◌, lawful_checked, lawful_where}
-use Rattle.ndr_frs.specs.Stubs.{all_of}
+use Rattle.ndr_frs.specs.Stubs.{all_of, in_stub}
 use Rattle.ndr_frs.specs.declared.refusal.StubBad.{StubBad}
 use Rattle.ndr_frs.specs.declared.refusal.StubBad.TheVariants as stubs
 use Rattle.ndr_frs.specs.Laws.{RepliesAreExact}
 use Rattle.ndr_frs.specs.Replies.{IsStatedReply, IsReply, IsStatus, IsVector, SpellsReply, as_check, as_close, as_connection, as_data, as_file, as_page, as_poll, as_session, as_vector, check_item, close_item, connection_item, data_item, file_item, page_item, poll_item, reply_appends, reply_number, reply_of, reply_reads, session_item, status_item, vector_item}
 use Rattle.ndr_frs.specs.declared.reply.FrsReply.{FrsReply}
 use Rattle.ndr_frs.specs.declared.reply.FrsReply.TheVariants as forms
+use Rattle.ndr_frs.proofs.OneReply.{replies_alike}
 use Rattle.ndr_frs.proofs.Shared.{IsIntervals, below_lawful, bytes_lawful, intervals_lawful, update_lawful, updates_lawful}
 use Rattle.ndr_frs.proofs.Stated.{reply_stated}
-use Rattle.ndr_frs.proofs.Stubs.{all_done, branch, only_in, spelled_in, start, written_by}
+use Rattle.ndr_frs.proofs.Stubs.{all_done, behind, branch, ended, front_in, judged, spelled_in, start, written_by}
 
 abbrev answer : FrsReply → Result FrsReply StubBad
 answer q = Ok q
@@ -91,17 +93,28 @@ file_lawful = lawful_where (λ t. IsReply (as_file t)) (λ t is. (is.2, (is.3, (
 
 -- ---- what is spelled is read
 
-only : (opnum : ℕ) (stub : List ℕ) (q : FrsReply) → SpellsReply opnum q stub → reply_of opnum stub ≡ Ok q
+-- a stub that begins with a spelling
+front : (opnum : ℕ) (text rest : List ℕ) (q : FrsReply) → SpellsReply opnum q text → reply_reads opnum (start (text ++ rest)) ≡ Ok (q, behind text rest)
 unfolding reply_reads
-only opnum stub (forms.CheckConnectivity rc) s = ap (λ (n : ℕ). reply_of n stub) s.0 ∙ only_in check_item _ check_lawful as_check stub rc s.1
-only opnum stub (forms.EstablishConnection version flags rc) s = ap (λ (n : ℕ). reply_of n stub) s.0 ∙ only_in connection_item _ connection_lawful as_connection stub (version, (flags, rc)) s.1
-only opnum stub (forms.EstablishSession rc) s = ap (λ (n : ℕ). reply_of n stub) s.0 ∙ only_in session_item _ session_lawful as_session stub rc s.1
-only opnum stub (forms.RequestUpdates maximum updates count status gvsn_db gvsn_version rc) s = ap (λ (n : ℕ). reply_of n stub) s.0 ∙ only_in page_item _ page_lawful as_page stub ((maximum, updates), (count, (status, (gvsn_db, (gvsn_version, rc))))) s.1
-only opnum stub (forms.RequestVersionVector rc) s = ap (λ (n : ℕ). reply_of n stub) s.0 ∙ only_in vector_item _ vector_lawful as_vector stub rc s.1
-only opnum stub (forms.AsyncPoll sequence status generation count vector rc) s = ap (λ (n : ℕ). reply_of n stub) s.0 ∙ only_in poll_item _ poll_lawful as_poll stub (sequence, (status, (generation, (count, (vector, rc))))) s.1
-only opnum stub (forms.RawGetFileData maximum bytes size_read is_end rc) s = ap (λ (n : ℕ). reply_of n stub) s.0 ∙ only_in data_item _ data_lawful as_data stub ((maximum, bytes), (size_read, (is_end, rc))) s.1
-only opnum stub (forms.RdcClose handle rc) s = ap (λ (n : ℕ). reply_of n stub) s.0 ∙ only_in close_item _ close_lawful as_close stub (handle, rc) s.1
-only opnum stub (forms.InitializeFileTransferAsync update handle maximum bytes size_read is_end detail rc) s = ap (λ (n : ℕ). reply_of n stub) s.0 ∙ only_in file_item _ file_lawful as_file stub (update, (handle, ((maximum, bytes), (size_read, (is_end, (detail, rc)))))) s.1
+front opnum text rest (forms.CheckConnectivity rc) s = ap (λ (n : ℕ). reply_reads n (start (text ++ rest))) s.0 ∙ ap in_stub (front_in check_item _ check_lawful as_check text rest rc s.1)
+front opnum text rest (forms.EstablishConnection version flags rc) s = ap (λ (n : ℕ). reply_reads n (start (text ++ rest))) s.0 ∙ ap in_stub (front_in connection_item _ connection_lawful as_connection text rest (version, (flags, rc)) s.1)
+front opnum text rest (forms.EstablishSession rc) s = ap (λ (n : ℕ). reply_reads n (start (text ++ rest))) s.0 ∙ ap in_stub (front_in session_item _ session_lawful as_session text rest rc s.1)
+front opnum text rest (forms.RequestUpdates maximum updates count status gvsn_db gvsn_version rc) s = ap (λ (n : ℕ). reply_reads n (start (text ++ rest))) s.0 ∙ ap in_stub (front_in page_item _ page_lawful as_page text rest ((maximum, updates), (count, (status, (gvsn_db, (gvsn_version, rc))))) s.1)
+front opnum text rest (forms.RequestVersionVector rc) s = ap (λ (n : ℕ). reply_reads n (start (text ++ rest))) s.0 ∙ ap in_stub (front_in vector_item _ vector_lawful as_vector text rest rc s.1)
+front opnum text rest (forms.AsyncPoll sequence status generation count vector rc) s = ap (λ (n : ℕ). reply_reads n (start (text ++ rest))) s.0 ∙ ap in_stub (front_in poll_item _ poll_lawful as_poll text rest (sequence, (status, (generation, (count, (vector, rc))))) s.1)
+front opnum text rest (forms.RawGetFileData maximum bytes size_read is_end rc) s = ap (λ (n : ℕ). reply_reads n (start (text ++ rest))) s.0 ∙ ap in_stub (front_in data_item _ data_lawful as_data text rest ((maximum, bytes), (size_read, (is_end, rc))) s.1)
+front opnum text rest (forms.RdcClose handle rc) s = ap (λ (n : ℕ). reply_reads n (start (text ++ rest))) s.0 ∙ ap in_stub (front_in close_item _ close_lawful as_close text rest (handle, rc) s.1)
+front opnum text rest (forms.InitializeFileTransferAsync update handle maximum bytes size_read is_end detail rc) s = ap (λ (n : ℕ). reply_reads n (start (text ++ rest))) s.0 ∙ ap in_stub (front_in file_item _ file_lawful as_file text rest (update, (handle, ((maximum, bytes), (size_read, (is_end, (detail, rc)))))) s.1)
+
+only : (opnum : ℕ) (stub : List ℕ) (q : FrsReply) → SpellsReply opnum q stub → reply_of opnum stub ≡ Ok q
+only opnum stub q s = ap (reply_of opnum) (sym (append-nil stub)) ∙ ap all_of (front opnum stub [] q s)
+
+-- with more behind it, it is no spelling
+begins : (opnum : ℕ) (text rest : List ℕ) (q r : FrsReply) → SpellsReply opnum q text → SpellsReply opnum r (text ++ rest) → (q ≡ r) × (rest ≡ [])
+begins opnum text rest q r s t =
+    let both : judged (eqb (length rest) 0) q (0 + length text) ≡ Ok r = sym (ap all_of (front opnum text rest q s)) ∙ only opnum (text ++ rest) r t in
+    let g = ended (eqb (length rest) 0) q r (0 + length text) both in
+    (g.1, nil_from_length rest (eqb-true _ _ g.0))
 
 -- ---- what is read is spelled
 
@@ -165,7 +178,9 @@ pub are_exact : RepliesAreExact
 are_exact = record {
   found = found;
   only = only;
+  begins = begins;
   one = λ opnum stub x y s t. same x y (sym (only opnum stub x s) ∙ only opnum stub y t);
+  alike = replies_alike;
   refused = λ opnum stub bad q e s. refused_twice bad q (sym e ∙ only opnum stub q s);
   written = written;
   back = λ q is. only (reply_number q) (reply_appends q []) q (written q is);

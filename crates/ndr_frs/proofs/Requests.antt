@@ -1,6 +1,7 @@
 -- Requests keep the laws.
-use Rattle.std.proofs.Common.{◌≡◌, ◌∙◌, ℕ, true, eqb, List, [], Result, Ok, Err, length, inl, inr, refl, sym, ap, arith}
+use Rattle.std.proofs.Common.{◌≡◌, ◌∙◌, ℕ, ◌+◌, true, eqb, List, [], ◌++◌, Result, Ok, Err, length, inl, inr, refl, sym, ap, arith}
 use Rattle.std.proofs.lemmas.Bool.{eqb-true}
+use Rattle.std.proofs.lemmas.List.{append-nil, nil_from_length}
 use Rattle.ndr_core.specs.Cursor.{Cursor}
 use Rattle.ndr_core.specs.Items.{AreBytes}
 use Rattle.ndr_core.specs.Laws.{IsLawful}
@@ -8,16 +9,17 @@ use Rattle.ndr_core.proofs.Arrays.{conformant_lawful, lawful_many}
 use Rattle.ndr_core.proofs.Bytes.{number_32_lawful, number_64_lawful}
 use Rattle.ndr_core.proofs.Identifiers.{guid_lawful, handle_lawful}
 use Rattle.ndr_core.proofs.Words.{◌⊗◌, lawful_fixed, lawful_then, lawful_where}
-use Rattle.ndr_frs.specs.Stubs.{all_of}
+use Rattle.ndr_frs.specs.Stubs.{all_of, in_stub}
 use Rattle.ndr_frs.specs.declared.refusal.StubBad.{StubBad}
 use Rattle.ndr_frs.specs.declared.refusal.StubBad.TheVariants as stubs
 use Rattle.ndr_frs.specs.Laws.{RequestsAreExact}
 use Rattle.ndr_frs.specs.Requests.{IsStatedRequest, IsRequest, SpellsRequest, as_check, as_close, as_connection, as_data, as_file, as_page, as_poll, as_session, as_vector, check_item, close_item, connection_item, data_item, file_item, page_item, poll_item, request_appends, request_number, request_of, request_reads, session_item, vector_item}
 use Rattle.ndr_frs.specs.declared.request.FrsRequest.{FrsRequest}
 use Rattle.ndr_frs.specs.declared.request.FrsRequest.TheVariants as forms
+use Rattle.ndr_frs.proofs.OneRequest.{requests_alike}
 use Rattle.ndr_frs.proofs.Shared.{below_lawful, interval_lawful, update_lawful}
 use Rattle.ndr_frs.proofs.Stated.{request_stated}
-use Rattle.ndr_frs.proofs.Stubs.{all_done, branch, only_in, spelled_in, start, written_by}
+use Rattle.ndr_frs.proofs.Stubs.{all_done, behind, branch, ended, front_in, judged, spelled_in, start, written_by}
 
 abbrev answer : FrsRequest → Result FrsRequest StubBad
 answer q = Ok q
@@ -65,17 +67,28 @@ file_lawful = lawful_where (λ t. IsRequest (as_file t)) (λ t is. (is.0, (is.1,
 
 -- ---- what is spelled is read
 
-only : (opnum : ℕ) (stub : List ℕ) (q : FrsRequest) → SpellsRequest opnum q stub → request_of opnum stub ≡ Ok q
+-- a stub that begins with a spelling
+front : (opnum : ℕ) (text rest : List ℕ) (q : FrsRequest) → SpellsRequest opnum q text → request_reads opnum (start (text ++ rest)) ≡ Ok (q, behind text rest)
 unfolding request_reads
-only opnum stub (forms.CheckConnectivity replica_set connection) s = ap (λ (n : ℕ). request_of n stub) s.0 ∙ only_in check_item _ check_lawful as_check stub (replica_set, connection) s.1
-only opnum stub (forms.EstablishConnection replica_set connection version flags) s = ap (λ (n : ℕ). request_of n stub) s.0 ∙ only_in connection_item _ connection_lawful as_connection stub (replica_set, (connection, (version, flags))) s.1
-only opnum stub (forms.EstablishSession connection content_set) s = ap (λ (n : ℕ). request_of n stub) s.0 ∙ only_in session_item _ session_lawful as_session stub (connection, content_set) s.1
-only opnum stub (forms.RequestUpdates connection content_set credits hash_requested kind diff_count diff) s = ap (λ (n : ℕ). request_of n stub) s.0 ∙ only_in page_item _ page_lawful as_page stub (connection, (content_set, (credits, (hash_requested, (kind, (diff_count, (tt, diff))))))) s.1
-only opnum stub (forms.RequestVersionVector sequence connection content_set request_type change_type generation) s = ap (λ (n : ℕ). request_of n stub) s.0 ∙ only_in vector_item _ vector_lawful as_vector stub (sequence, (connection, (content_set, (request_type, (change_type, generation))))) s.1
-only opnum stub (forms.AsyncPoll connection) s = ap (λ (n : ℕ). request_of n stub) s.0 ∙ only_in poll_item _ poll_lawful as_poll stub connection s.1
-only opnum stub (forms.RawGetFileData handle buffer_size) s = ap (λ (n : ℕ). request_of n stub) s.0 ∙ only_in data_item _ data_lawful as_data stub (handle, buffer_size) s.1
-only opnum stub (forms.RdcClose handle) s = ap (λ (n : ℕ). request_of n stub) s.0 ∙ only_in close_item _ close_lawful as_close stub handle s.1
-only opnum stub (forms.InitializeFileTransferAsync connection update rdc_desired policy buffer_size) s = ap (λ (n : ℕ). request_of n stub) s.0 ∙ only_in file_item _ file_lawful as_file stub (connection, (update, (rdc_desired, (policy, buffer_size)))) s.1
+front opnum text rest (forms.CheckConnectivity replica_set connection) s = ap (λ (n : ℕ). request_reads n (start (text ++ rest))) s.0 ∙ ap in_stub (front_in check_item _ check_lawful as_check text rest (replica_set, connection) s.1)
+front opnum text rest (forms.EstablishConnection replica_set connection version flags) s = ap (λ (n : ℕ). request_reads n (start (text ++ rest))) s.0 ∙ ap in_stub (front_in connection_item _ connection_lawful as_connection text rest (replica_set, (connection, (version, flags))) s.1)
+front opnum text rest (forms.EstablishSession connection content_set) s = ap (λ (n : ℕ). request_reads n (start (text ++ rest))) s.0 ∙ ap in_stub (front_in session_item _ session_lawful as_session text rest (connection, content_set) s.1)
+front opnum text rest (forms.RequestUpdates connection content_set credits hash_requested kind diff_count diff) s = ap (λ (n : ℕ). request_reads n (start (text ++ rest))) s.0 ∙ ap in_stub (front_in page_item _ page_lawful as_page text rest (connection, (content_set, (credits, (hash_requested, (kind, (diff_count, (tt, diff))))))) s.1)
+front opnum text rest (forms.RequestVersionVector sequence connection content_set request_type change_type generation) s = ap (λ (n : ℕ). request_reads n (start (text ++ rest))) s.0 ∙ ap in_stub (front_in vector_item _ vector_lawful as_vector text rest (sequence, (connection, (content_set, (request_type, (change_type, generation))))) s.1)
+front opnum text rest (forms.AsyncPoll connection) s = ap (λ (n : ℕ). request_reads n (start (text ++ rest))) s.0 ∙ ap in_stub (front_in poll_item _ poll_lawful as_poll text rest connection s.1)
+front opnum text rest (forms.RawGetFileData handle buffer_size) s = ap (λ (n : ℕ). request_reads n (start (text ++ rest))) s.0 ∙ ap in_stub (front_in data_item _ data_lawful as_data text rest (handle, buffer_size) s.1)
+front opnum text rest (forms.RdcClose handle) s = ap (λ (n : ℕ). request_reads n (start (text ++ rest))) s.0 ∙ ap in_stub (front_in close_item _ close_lawful as_close text rest handle s.1)
+front opnum text rest (forms.InitializeFileTransferAsync connection update rdc_desired policy buffer_size) s = ap (λ (n : ℕ). request_reads n (start (text ++ rest))) s.0 ∙ ap in_stub (front_in file_item _ file_lawful as_file text rest (connection, (update, (rdc_desired, (policy, buffer_size)))) s.1)
+
+only : (opnum : ℕ) (stub : List ℕ) (q : FrsRequest) → SpellsRequest opnum q stub → request_of opnum stub ≡ Ok q
+only opnum stub q s = ap (request_of opnum) (sym (append-nil stub)) ∙ ap all_of (front opnum stub [] q s)
+
+-- with more behind it, it is no spelling
+begins : (opnum : ℕ) (text rest : List ℕ) (q r : FrsRequest) → SpellsRequest opnum q text → SpellsRequest opnum r (text ++ rest) → (q ≡ r) × (rest ≡ [])
+begins opnum text rest q r s t =
+    let both : judged (eqb (length rest) 0) q (0 + length text) ≡ Ok r = sym (ap all_of (front opnum text rest q s)) ∙ only opnum (text ++ rest) r t in
+    let g = ended (eqb (length rest) 0) q r (0 + length text) both in
+    (g.1, nil_from_length rest (eqb-true _ _ g.0))
 
 -- ---- what is read is spelled
 
@@ -139,7 +152,9 @@ pub are_exact : RequestsAreExact
 are_exact = record {
   found = found;
   only = only;
+  begins = begins;
   one = λ opnum stub x y s t. same x y (sym (only opnum stub x s) ∙ only opnum stub y t);
+  alike = requests_alike;
   refused = λ opnum stub bad q e s. refused_twice bad q (sym e ∙ only opnum stub q s);
   written = written;
   back = λ q is. only (request_number q) (request_appends q []) q (written q is);

@@ -1,5 +1,5 @@
 -- A stub that is one item.
-use Rattle.std.proofs.Common.{◌≡◌, ◌∙◌, ℕ, Bool, true, false, cond, eqb, List, [], ◌++◌, Result, Ok, Err, length, inl, inr, refl, sym, ap, subst}
+use Rattle.std.proofs.Common.{◌≡◌, ◌∙◌, ℕ, ◌+◌, Bool, true, false, cond, eqb, List, [], ◌++◌, Result, Ok, Err, length, inl, inr, refl, sym, ap, subst}
 use Rattle.std.specs.Prelude.{◌⊎◌}
 use Rattle.std.proofs.lemmas.Bool.{eqb-true}
 use Rattle.std.proofs.lemmas.List.{append-nil, nil_from_length}
@@ -21,7 +21,7 @@ pub branch : {Q : Type 0} (b : Bool) (x y : Result (Q × Cursor) StubBad) (q : Q
 branch true x y q e = inl (refl, e)
 branch false x y q e = inr (refl, e)
 
-ended : {Q : Type 0} (b : Bool) (x q : Q) (at : ℕ) → cond b (Ok x) (Err (OfItem (Rest at))) ≡ Ok q → (b ≡ true) × (x ≡ q)
+pub ended : {Q : Type 0} (b : Bool) (x q : Q) (at : ℕ) → cond b (Ok x) (Err (OfItem (Rest at))) ≡ Ok q → (b ≡ true) × (x ≡ q)
 ended true x q at e = (refl, cc)
 ended false x q at e = absurd cc
 
@@ -51,10 +51,13 @@ spelled_in item Fits is make Spells stub q are gives e =
     let g = found_in item Fits is make stub q are e in
     subst Spells g.1 (gives g.0 g.2)
 
-pub only_in : {A Q : Type 0} (item : Item A) (Fits : A → Type 0) → IsLawful item Fits → (make : A → Q) (stub : List ℕ) (a : A) → item.Spells 0 a stub → all_of (in_stub (made make item (start stub))) ≡ Ok (make a)
-only_in item Fits is make stub a spells =
-    let read = ap (λ (b : List ℕ). item.reads (start b)) (sym (append-nil stub)) ∙ is.whole 0 a stub [] spells in
-    ap (λ r. all_of (in_stub (r >>= λ x. done (make x.0, x.1)))) read
+-- what stands behind a text
+abbrev pub behind : List ℕ → List ℕ → Cursor
+behind text rest = record { at = 0 + length text; rest = rest }
+
+-- a stub that begins with a spelling of the fields
+pub front_in : {A Q : Type 0} (item : Item A) (Fits : A → Type 0) → IsLawful item Fits → (make : A → Q) (text rest : List ℕ) (a : A) → item.Spells 0 a text → made make item (start (text ++ rest)) ≡ Ok (make a, behind text rest)
+front_in item Fits is make text rest a spells = ap (λ r. r >>= λ x. done (make x.0, x.1)) (is.whole 0 a text rest spells)
 
 -- what is written is spelled
 pub written_by : {A : Type 0} (item : Item A) (Fits : A → Type 0) → IsLawful item Fits → (a : A) → Fits a → item.Spells 0 a (item.appends [] a)
@@ -62,7 +65,7 @@ written_by item Fits is a fits =
     let w = is.written [] a fits in
     subst (λ (text : List ℕ). item.Spells 0 a text) (sym w.parts) w.spells
 
-abbrev judged : {Q : Type 0} → Bool → Q → ℕ → Result Q StubBad
+abbrev pub judged : {Q : Type 0} → Bool → Q → ℕ → Result Q StubBad
 judged b q at = cond b (Ok q) (Err (OfItem (Rest at)))
 
 -- what is read to the end is the whole stub

@@ -147,6 +147,12 @@ SpellsRequest opnum (forms.InitializeFileTransferAsync connection update rdc_des
 
 -- ---- values
 
+-- versions or updates are asked for
+abbrev pub IsAsking : FrsRequest → Type 0
+IsAsking (forms.RequestUpdates connection content_set credits hash_requested kind diff_count diff) = Unit {0}
+IsAsking (forms.RequestVersionVector sequence connection content_set request_type change_type generation) = Unit {0}
+IsAsking other = ⊥
+
 -- each field has one of its stated values, each array is within its limit, and each count is its array's
 abbrev pub IsStatedRequest : FrsRequest → Type 0
 IsStatedRequest (forms.RequestUpdates connection content_set credits hash_requested kind diff_count diff) = (kind < 3) × (diff_count ≡ length diff) × (length diff ≤ 131072)

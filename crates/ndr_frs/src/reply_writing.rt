@@ -2,7 +2,7 @@
 ghost use Rattle.std.specs.Prelude.{◌≡◌, ◌≤◌, IfOk, IfSome, OnOk, [], length};
 ghost use Rattle.ndr_core.specs.Pointers.{optional};
 ghost use Rattle.ndr_frs.specs.Shared.{intervals_item};
-ghost use Rattle.ndr_frs.specs.Replies.{IsStatedReply, connection_item, data_item, file_item, page_item, poll_item, reply_appends};
+ghost use Rattle.ndr_frs.specs.Replies.{IsListing, IsStatedReply, IsTransfer, connection_item, data_item, file_item, page_item, poll_item, reply_appends};
 
 use crate::FrsReply;
 use crate::arrays::{put_bytes, put_intervals, put_updates};
@@ -144,18 +144,13 @@ fn put_file(
     out.put_u32(rest.rc)
 }
 
-/// Writes the fields of a reply.
-fn put_reply(out: &mut Writer, reply: &FrsReply) -> Result<(), AllocError>
-    requires { IsStatedReply reply.now }
+/// Writes the fields of a reply that lists updates or versions.
+fn put_listing(out: &mut Writer, reply: &FrsReply) -> Result<(), AllocError>
+    requires lists { IsListing reply.now }
+    requires stated { IsStatedReply reply.now }
     ensures { OnOk result (out.new ≡ reply_appends reply.now out.old) }
 {
     match reply {
-        FrsReply::CheckConnectivity { rc }
-        | FrsReply::EstablishSession { rc }
-        | FrsReply::RequestVersionVector { rc } => out.put_u32(*rc),
-        FrsReply::EstablishConnection { version, flags, rc } => {
-            put_connection(out, *version, *flags, *rc)
-        }
         FrsReply::RequestUpdates {
             maximum,
             updates,
@@ -192,6 +187,17 @@ fn put_reply(out: &mut Writer, reply: &FrsReply) -> Result<(), AllocError>
             };
             put_poll(out, vector, rest)
         }
+        _ => unreachable!(),
+    }
+}
+
+/// Writes the fields of a reply that carries bytes of a file.
+fn put_transfer(out: &mut Writer, reply: &FrsReply) -> Result<(), AllocError>
+    requires transfers { IsTransfer reply.now }
+    requires stated { IsStatedReply reply.now }
+    ensures { OnOk result (out.new ≡ reply_appends reply.now out.old) }
+{
+    match reply {
         FrsReply::RawGetFileData {
             maximum,
             bytes,
@@ -199,10 +205,6 @@ fn put_reply(out: &mut Writer, reply: &FrsReply) -> Result<(), AllocError>
             is_end,
             rc,
         } => put_data(out, *maximum, bytes.as_slice(), *size_read, *is_end, *rc),
-        FrsReply::RdcClose { handle, rc } => {
-            out.put_handle(*handle)?;
-            out.put_u32(*rc)
-        }
         FrsReply::InitializeFileTransferAsync {
             update,
             handle,
@@ -222,6 +224,30 @@ fn put_reply(out: &mut Writer, reply: &FrsReply) -> Result<(), AllocError>
                 rc: *rc,
             };
             put_file(out, update, bytes.as_slice(), rest)
+        }
+        _ => unreachable!(),
+    }
+}
+
+/// Writes the fields of a reply.
+fn put_reply(out: &mut Writer, reply: &FrsReply) -> Result<(), AllocError>
+    requires { IsStatedReply reply.now }
+    ensures { OnOk result (out.new ≡ reply_appends reply.now out.old) }
+{
+    match reply {
+        FrsReply::CheckConnectivity { rc }
+        | FrsReply::EstablishSession { rc }
+        | FrsReply::RequestVersionVector { rc } => out.put_u32(*rc),
+        FrsReply::EstablishConnection { version, flags, rc } => {
+            put_connection(out, *version, *flags, *rc)
+        }
+        FrsReply::RequestUpdates { .. } => put_listing(out, reply),
+        FrsReply::AsyncPoll { .. } => put_listing(out, reply),
+        FrsReply::RawGetFileData { .. } => put_transfer(out, reply),
+        FrsReply::InitializeFileTransferAsync { .. } => put_transfer(out, reply),
+        FrsReply::RdcClose { handle, rc } => {
+            out.put_handle(*handle)?;
+            out.put_u32(*rc)
         }
     }
 }

@@ -1,6 +1,8 @@
 // From stubs to requests.
 ghost use Rattle.std.specs.Prelude.{IfOk};
-ghost use Rattle.ndr_core.specs.Calls.{ReadsBy};
+ghost use Rattle.ndr_core.specs.Calls.{Reads, ReadsBy};
+ghost use Rattle.ndr_core.specs.Items.{◌⨾◌};
+ghost use Rattle.ndr_core.specs.Identifiers.{guid_item};
 ghost use Rattle.ndr_frs.specs.Requests.{IsStatedRequest, as_check, as_close, as_connection, as_data, as_file, as_page, as_poll, as_session, as_vector, check_item, close_item, connection_item, data_item, file_item, page_item, poll_item, request_of, request_reads, session_item, vector_item};
 ghost use Rattle.ndr_frs.specs.Stubs.{AnswersOrMemory, ReadsOrMemory, made};
 
@@ -9,18 +11,26 @@ use crate::fields::take_below;
 use crate::interval::IntervalItem;
 use crate::update::UpdateItem;
 use crate::{FrsRequest, StubBad, StubError};
-use frs_base::List;
+use frs_base::{Guid, List};
 use ndr_core::{NdrBad, NdrError, Reader, Wire, take_many};
 use std::alloc::Global;
 
 /// The most intervals of a difference.
 const DIFFERENCE: u32 = 131_072;
 
+/// Two GUIDs.
+fn take_guids(r: &mut Reader) -> Result<(Guid, Guid), NdrBad>
+    ensures { Reads (λ x. x) (guid_item ⨾ guid_item) result r.old r.new }
+{
+    let first = r.take_guid()?;
+    let second = r.take_guid()?;
+    Ok((first, second))
+}
+
 fn take_check(r: &mut Reader) -> Result<FrsRequest, NdrError>
     ensures { ReadsBy (λ x. x) (made as_check check_item) result r.old r.new }
 {
-    let replica_set = r.take_guid()?;
-    let connection = r.take_guid()?;
+    let (replica_set, connection) = take_guids(r)?;
     Ok(FrsRequest::CheckConnectivity {
         replica_set,
         connection,
@@ -45,8 +55,7 @@ fn take_connection(r: &mut Reader) -> Result<FrsRequest, NdrError>
 fn take_session(r: &mut Reader) -> Result<FrsRequest, NdrError>
     ensures { ReadsBy (λ x. x) (made as_session session_item) result r.old r.new }
 {
-    let connection = r.take_guid()?;
-    let content_set = r.take_guid()?;
+    let (connection, content_set) = take_guids(r)?;
     Ok(FrsRequest::EstablishSession {
         connection,
         content_set,

@@ -1,6 +1,8 @@
 // From requests to stubs.
 ghost use Rattle.std.specs.Prelude.{◌≡◌, ◌≤◌, IfOk, OnOk, [], length};
-ghost use Rattle.ndr_frs.specs.Requests.{IsStatedRequest, connection_item, file_item, page_item, request_appends, vector_item};
+ghost use Rattle.ndr_core.specs.Items.{◌⨾◌};
+ghost use Rattle.ndr_core.specs.Identifiers.{guid_item};
+ghost use Rattle.ndr_frs.specs.Requests.{IsAsking, IsStatedRequest, connection_item, file_item, page_item, request_appends, vector_item};
 
 use crate::FrsRequest;
 use crate::interval::IntervalItem;
@@ -103,31 +105,12 @@ fn put_file(
     out.put_u32(buffer_size)
 }
 
-/// Writes the fields of a request.
-fn put_request(out: &mut Writer, request: &FrsRequest) -> Result<(), AllocError>
+/// Writes the fields of a request for versions or for updates.
+fn put_asking(out: &mut Writer, request: &FrsRequest) -> Result<(), AllocError>
+    requires { IsAsking request.now }
     ensures { OnOk result (out.new ≡ request_appends request.now out.old) }
 {
     match request {
-        FrsRequest::CheckConnectivity {
-            replica_set,
-            connection,
-        } => {
-            out.put_guid(*replica_set)?;
-            out.put_guid(*connection)
-        }
-        FrsRequest::EstablishConnection {
-            replica_set,
-            connection,
-            version,
-            flags,
-        } => put_connection(out, *replica_set, *connection, *version, *flags),
-        FrsRequest::EstablishSession {
-            connection,
-            content_set,
-        } => {
-            out.put_guid(*connection)?;
-            out.put_guid(*content_set)
-        }
         FrsRequest::RequestUpdates {
             connection,
             content_set,
@@ -165,6 +148,39 @@ fn put_request(out: &mut Writer, request: &FrsRequest) -> Result<(), AllocError>
             };
             put_vector(out, fields)
         }
+        _ => unreachable!(),
+    }
+}
+
+/// Writes two GUIDs.
+fn put_guids(out: &mut Writer, first: Guid, second: Guid) -> Result<(), AllocError>
+    ensures { OnOk result (out.new ≡ (guid_item ⨾ guid_item).appends out.old (first, second)) }
+{
+    out.put_guid(first)?;
+    out.put_guid(second)
+}
+
+/// Writes the fields of a request.
+fn put_request(out: &mut Writer, request: &FrsRequest) -> Result<(), AllocError>
+    ensures { OnOk result (out.new ≡ request_appends request.now out.old) }
+{
+    match request {
+        FrsRequest::CheckConnectivity {
+            replica_set,
+            connection,
+        } => put_guids(out, *replica_set, *connection),
+        FrsRequest::EstablishConnection {
+            replica_set,
+            connection,
+            version,
+            flags,
+        } => put_connection(out, *replica_set, *connection, *version, *flags),
+        FrsRequest::EstablishSession {
+            connection,
+            content_set,
+        } => put_guids(out, *connection, *content_set),
+        FrsRequest::RequestUpdates { .. } => put_asking(out, request),
+        FrsRequest::RequestVersionVector { .. } => put_asking(out, request),
         FrsRequest::AsyncPoll { connection } => out.put_guid(*connection),
         FrsRequest::RawGetFileData {
             handle,

@@ -5,12 +5,7 @@ use Rattle.std.specs.List.{AllByRecursion}
 use Rattle.std.proofs.lemmas.List.{append-nil, drop-append-le, get_or-drop}
 use Rattle.ndr_core.specs.Cursor.{Cursor}
 use Rattle.ndr_core.specs.Items.{AreBytes}
-use Rattle.rpc_frag.specs.Streams.{Next, AnyCut, Bad, Ends, Fed, OneReading, more, whole}
-
--- an answer stays vs more bytes come, and a value's bytes are there
-pub record IsSteady {A E : Type 0} (next : Next A E) : Type 0 where
-  pub stays : (bytes piece : List ℕ) → AreBytes bytes → (next bytes ≡ Ok None) ⊎ (next (bytes ++ piece) ≡ next bytes)
-  pub there : (bytes : List ℕ) (a : A) (n : ℕ) → next bytes ≡ Ok (Some (a, n)) → n ≤ length bytes
+use Rattle.rpc_frag.specs.Streams.{IsSteady, Next, AnyCut, Bad, Ends, Fed, OneReading, more, whole}
 
 some_stays : {A E : Type 0} (next : Next A E) → IsSteady next → (bytes piece : List ℕ) (a : A) (n : ℕ) → AreBytes bytes → next bytes ≡ Ok (Some (a, n)) → next (bytes ++ piece) ≡ Ok (Some (a, n))
 some_stays next is bytes piece a n are e =

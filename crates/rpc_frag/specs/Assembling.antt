@@ -79,6 +79,10 @@ AreParts w begun front (f ∷ g ∷ fs) = (is_first f ≡ not begun) × (is_same
 abbrev pub FragmentsGiveTheirCall : Type 0
 FragmentsGiveTheirCall = (w : Whole) (fs : List Fragment) → length w.stub ≤ 8388608 → AreParts w false [] fs → run None fs ≡ Ok (w ∷ [], None)
 
+-- fragments that give one call, and leave nothing begun, are that call's
+abbrev pub GivenForItsFragments : Type 0
+GivenForItsFragments = (w : Whole) (fs : List Fragment) → run None fs ≡ Ok (w ∷ [], None) → (length w.stub ≤ 8388608) × AreParts w false [] fs
+
 -- an answer has no opnum
 abbrev pub HasItsOpnum : Bool → Whole → Type 0
 HasItsOpnum true w = w.opnum ≡ 0

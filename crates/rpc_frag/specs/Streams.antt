@@ -1,5 +1,5 @@
 -- Values out of a stream that comes in pieces.
-use Rattle.std.specs.Prelude.{◌≡◌, ◌+◌, ℕ, List, [], ◌∷◌, ◌++◌, Option, Some, None, Result, Ok, Err, drop}
+use Rattle.std.specs.Prelude.{◌≡◌, ◌⊎◌, ◌+◌, ◌≤◌, ℕ, List, [], ◌∷◌, ◌++◌, Option, Some, None, Result, Ok, Err, drop, length}
 use Rattle.std.specs.List.{AllByRecursion}
 use Rattle.ndr_core.specs.Cursor.{Cursor}
 use Rattle.ndr_core.specs.Items.{AreBytes}
@@ -7,6 +7,11 @@ use Rattle.ndr_core.specs.Items.{AreBytes}
 -- what is at the front: a value and how many bytes it has, nothing yet, or a refusal
 abbrev pub Next : Type 0 → Type 0 → Type 0
 Next A E = List ℕ → Result (Option (A × ℕ)) E
+
+-- an answer stays as more bytes come, and a value's bytes are there
+pub record IsSteady {A E : Type 0} (next : Next A E) : Type 0 where
+  pub stays : (bytes piece : List ℕ) → AreBytes bytes → (next bytes ≡ Ok None) ⊎ (next (bytes ++ piece) ≡ next bytes)
+  pub there : (bytes : List ℕ) (a : A) (n : ℕ) → next bytes ≡ Ok (Some (a, n)) → n ≤ length bytes
 
 -- more bytes have come
 abbrev pub more : Cursor → List ℕ → Cursor

@@ -63,7 +63,8 @@ pub fn cut(alloc: Global, whole: &Whole, response: bool, max: u16) -> Result<Vec
     requires least { 1432 ≤ max }
     requires most { max ≤ 5840 }
     requires short { length whole.now.stub ≤ 8388608 }
-    ensures { IfOk result (λ parts. IsCut whole.now response (max - 24) true whole.now.stub parts.items) }
+    ensures { IfOk result
+        (λ parts. IsCut whole.now response (max - 24) true whole.now.stub parts.items) }
 {
     let size = usize::from(max - OVERHEAD);
     let mut parts = Vec::new(alloc);

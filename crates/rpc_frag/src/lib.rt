@@ -15,7 +15,7 @@ mod splitting;
 pub use assembler::Assembler;
 pub use cutting::cut;
 pub use fragment::Whole;
-pub use laws::{any_cut_gives_the_same, fragments_give_their_call};
+pub use laws::{any_cut_gives_the_same, any_cut_of_any_decoder, fragments_give_their_call};
 pub use refusal::{FragBad, FragError, StreamBad, StreamError};
 pub use splitting::Splitter;
 

@@ -66,7 +66,7 @@ impl From<AllocError> for FragError {
 /// Where a stream has no PDU, and why.
 #[derive(Clone, Copy, Debug, PartialEq, Eq)]
 pub struct StreamBad {
-    /// The place in the stream, as far as the splitter has counted, at which the refused PDU begins.
+    /// The place in the stream, as far as the splitter has counted, where the refused PDU begins.
     pub at: usize,
     pub why: PduBad,
 }

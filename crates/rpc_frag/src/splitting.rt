@@ -31,7 +31,8 @@ impl Model for Splitter {
 
     ghost view = { λ s. record { at = s.at; rest = drop s.taken s.bytes.items } };
 
-    ghost invariant = { λ s. (s.taken ≤ length s.bytes.items) × (s.at + length (drop s.taken s.bytes.items) < 2 ^ 63) };
+    ghost invariant = { λ s. (s.taken ≤ length s.bytes.items)
+        × (s.at + length (drop s.taken s.bytes.items) < 2 ^ 63) };
 }
 
 impl Splitter {

@@ -4,7 +4,7 @@ ghost use Rattle.rpc_frag.specs.Fragments.{IsPart};
 
 use super::*;
 use frs_base::Bytes;
-use rpc_pdu::{Pdu, PduBody, Request};
+use rpc_pdu::{Pdu, PduBad, PduBody, Request, Response};
 use std::alloc::{AllocError, Global};
 use std::process::Abort;
 use std::test::Fail;
@@ -52,6 +52,56 @@ fn wire_fragment_order(rt: HostRuntime) -> Result<(), Fail> {
     expect_order(&rt, alloc, &[(7, 1), (8, 0)], false)?;
     expect_order(&rt, alloc, &[(7, 1), (7, 0), (7, 2), (8, 3)], true)?;
     Ok(())
+}
+
+/// A part of an answer with so many bytes of its stub.
+fn long_part(alloc: Global, flags: u8, size: usize) -> Result<Pdu, AllocError>
+    ensures { IfOk result (λ pdu. IsPart pdu.body) }
+{
+    let stub = Bytes::of(vec![in alloc; 0u8; size]?);
+    Ok(Pdu {
+        call: 7,
+        flags,
+        body: PduBody::Response(Response {
+            hint: 0,
+            context: 0,
+            stub,
+        }),
+    })
+}
+
+/// Why a part is refused, if it is.
+fn refusal(assembler: &mut Assembler, pdu: Pdu) -> Option<FragBad>
+    requires { IsPart pdu.body }
+{
+    match assembler.feed(pdu) {
+        Err(FragError::Bad(bad)) => Some(bad),
+        _ => None,
+    }
+}
+
+#[test]
+fn a_stub_has_at_most_8_388_608_bytes(rt: HostRuntime) -> Result<(), Fail> {
+    let alloc = rt.alloc();
+    let mut assembler = Assembler::new();
+    let too_long = FragBad::FragTooLong { length: 8_388_609 };
+    for (flags, size, want) in [
+        (1, 8_388_607, None),
+        (0, 1, None),
+        (2, 1, Some(too_long)),
+        (2, 1, Some(FragBad::FragOrder)),
+        (3, 8_388_609, Some(too_long)),
+        (3, 8_388_608, None),
+    ] {
+        let found = refusal(&mut assembler, long_part(alloc, flags, size)?);
+        assert_eq!(rt; found, want, "{flags} {size}");
+    }
+    Ok(())
+}
+
+#[test]
+fn any_decoder_is_cut_alike() {
+    any_cut_of_any_decoder::<Pdu, PduBad>();
 }
 
 /// Appends the bytes of a response's fragment, and tells whether it is one.

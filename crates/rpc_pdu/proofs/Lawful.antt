@@ -74,7 +74,7 @@ address_lawful = record {
   written = λ out a fits.
       let w = sized_address.written out (0, tt) (lit< tt, tt) in
       record { text = w.text; parts = sym (append-nil _) ∙ w.parts; spells = (0, w.spells) };
-  sized = λ x y a e. number_16_lawful.sized x y 0 e;
+  placed = λ x y a e. number_16_lawful.placed x y 0 e;
 }
 
 pub ack_lawful : IsLawful ack_item IsAck

@@ -1,5 +1,6 @@
 -- What PDUs are written as.
-use Rattle.std.specs.Prelude.{◌≡◌, ◌<◌, ◌++◌, ℕ, Bool, List, [], ◌∷◌, bit_and, length, true}
+use Rattle.std.specs.Prelude.{◌≡◌, ◌<◌, ◌++◌, ℕ, Bool, List, [], ◌∷◌, bit_and, length, slice_set, true}
+use Rattle.std.specs.Int.{byte_at}
 use Rattle.std.specs.List.{AllByRecursion}
 use Rattle.rpc_pdu.specs.Headers.{header_item}
 use Rattle.rpc_pdu.specs.Bodies.{ack_item, bind_item, fault_item, fits_ack, fits_bind, nak_item, request_item, response_item}
@@ -44,6 +45,16 @@ encoded_as p size = body_appends p.body (header_item.appends [] (header_for p si
 -- with its own
 unfoldable pub encoded : Pdu → List ℕ
 encoded p = encoded_as p (length (encoded_as p 0))
+
+-- bytes with a length in its place in the header
+abbrev pub with_length : ℕ → List ℕ → List ℕ
+with_length size bytes = slice_set (slice_set bytes 8 (byte_at 0 size)) 9 (byte_at 1 size)
+
+-- how many bytes of a stub a body has
+abbrev pub stub_length : PduBody → ℕ
+stub_length (bodies.Request request) = length request.stub
+stub_length (bodies.Response response) = length response.stub
+stub_length other = 0
 
 -- ---- what has room
 

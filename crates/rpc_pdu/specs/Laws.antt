@@ -1,10 +1,11 @@
 -- What holds of every PDU.
-use Rattle.std.specs.Prelude.{◌≡◌, ◌⊎◌, ◌≤◌, ◌++◌, ℕ, List, None, Some, Ok, length, take}
+use Rattle.std.specs.Prelude.{◌≡◌, ◌⊎◌, ◌≤◌, ◌++◌, ℕ, List, [], None, Some, Ok, Err, length, take}
 use Rattle.ndr_core.specs.Items.{AreBytes}
 use Rattle.rpc_pdu.specs.Decoding.{decoded}
 use Rattle.rpc_pdu.specs.Encoding.{HasFewTransfers, HasNoObject, encoded, encoded_as}
 use Rattle.rpc_pdu.specs.Spelling.{IsPdu, Spells}
 use Rattle.rpc_pdu.specs.declared.pdu.Pdu.{Pdu}
+use Rattle.rpc_pdu.specs.declared.refusal.PduBad.{PduBad}
 
 -- what is written is a spelling
 abbrev pub PdusAreSpelled : Type 0
@@ -13,6 +14,14 @@ PdusAreSpelled = (p : Pdu) → IsPdu p → Spells p (encoded p)
 -- a spelling is read, whatever follows
 abbrev pub PdusAreReadAsSpelled : Type 0
 PdusAreReadAsSpelled = (p : Pdu) (text rest : List ℕ) → Spells p text → decoded (text ++ rest) ≡ Ok (Some (p, length text))
+
+-- bytes spell one PDU at most, and no spelling begins another
+abbrev pub NoneBegins : Type 0
+NoneBegins = (p q : Pdu) (text rest : List ℕ) → Spells p text → Spells q (text ++ rest) → (p ≡ q) × (rest ≡ [])
+
+-- bytes that begin with a spelling are never refused
+abbrev pub NeverBoth : Type 0
+NeverBoth = (p : Pdu) (text rest : List ℕ) (bad : PduBad) → Spells p text → decoded (text ++ rest) ≡ Err bad → ⊥
 
 -- what is read is a spelling, of so many bytes
 abbrev pub WhatIsReadIsSpelled : Type 0

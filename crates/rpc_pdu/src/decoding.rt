@@ -88,7 +88,8 @@ fn body_of(alloc: Global, r: &mut Reader, h: &Header) -> Result<PduBody, PduErro
 fn pdu_of(alloc: Global, bytes: &[u8], h: &Header) -> Result<Option<(Pdu, usize)>, PduError>
     requires { 16 ≤ h.now.length }
     ensures answers { AnswersOrMemory result (begun bytes.now h.now) }
-    ensures sized { IfOk result (λ found. IfSome found (λ p. (16 ≤ p.1) × (p.1 ≤ length bytes.now))) }
+    ensures sized { IfOk result
+        (λ found. IfSome found (λ p. (16 ≤ p.1) × (p.1 ≤ length bytes.now))) }
 {
     let length = usize::from(h.length);
     if bytes.len() < length {
@@ -108,7 +109,8 @@ fn pdu_of(alloc: Global, bytes: &[u8], h: &Header) -> Result<Option<(Pdu, usize)
 #[tactic(auto, unfolding(crate::specs::Decoding::decoded))]
 pub fn decode(alloc: Global, bytes: &[u8]) -> Result<Option<(Pdu, usize)>, PduError>
     ensures answers { AnswersOrMemory result (decoded bytes.now) }
-    ensures sized { IfOk result (λ found. IfSome found (λ p. (16 ≤ p.1) × (p.1 ≤ length bytes.now))) }
+    ensures sized { IfOk result
+        (λ found. IfSome found (λ p. (16 ≤ p.1) × (p.1 ≤ length bytes.now))) }
 {
     match take_header(&mut Reader::new(bytes)) {
         Err(_) => Ok(None),

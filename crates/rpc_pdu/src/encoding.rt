@@ -1,6 +1,6 @@
 // From PDUs to bytes.
 ghost use Rattle.std.specs.Prelude.{◌≡◌, ◌≤◌, IfOk, OnOk, length, true};
-ghost use Rattle.rpc_pdu.specs.Encoding.{HasFewTransfers, HasNoObject, body_appends, encoded, encoded_as, fits_body, header_for, kind_of};
+ghost use Rattle.rpc_pdu.specs.Encoding.{HasFewTransfers, HasNoObject, body_appends, encoded, encoded_as, fits_body, header_for, kind_of, stub_length, with_length};
 ghost use Rattle.rpc_pdu.specs.declared.pdu.PduBody.TheVariants as bodies;
 
 use crate::calls::{put_request, put_response};
@@ -8,6 +8,12 @@ use crate::header::{Header, REPRESENTATION, VERSION, put_header};
 use crate::{Bind, BindAck, BindNak, Fault, Pdu, PduBody};
 use ndr_core::{Wire, Writer};
 use std::alloc::{AllocError, Global};
+
+/// The place of the length in the header.
+const LENGTH_AT: usize = 8;
+
+/// The most bytes that a call, an answer or a fault has without its stub.
+const WITHOUT_STUB: usize = 32;
 
 /// The kind of PDU that a body makes.
 fn kind_of(body: &PduBody) -> u8
@@ -66,15 +72,40 @@ fn header_for(pdu: &Pdu, length: u16) -> Header
     }
 }
 
-/// The bytes of a PDU with this length in its header.
-fn write_with(alloc: Global, pdu: &Pdu, length: u16) -> Result<Vec<u8>, AllocError>
-    requires { fits_body pdu.now.body ≡ true }
-    ensures { IfOk result (λ bytes. bytes.items ≡ encoded_as pdu.now length) }
+/// How many bytes of a stub a body has.
+fn stub_length(body: &PduBody) -> usize
+    ensures { result ≡ stub_length body.now }
 {
-    let mut out = Writer::new(alloc);
-    put_header(&mut out, &header_for(pdu, length))?;
+    match body {
+        PduBody::Request(request) => request.stub.as_slice().len(),
+        PduBody::Response(response) => response.stub.as_slice().len(),
+        _ => 0,
+    }
+}
+
+/// The bytes of a PDU with the length 0 in its header. Where it has a stub, room is made for all of
+/// them at once.
+fn write_unsized(alloc: Global, pdu: &Pdu) -> Result<Vec<u8>, AllocError>
+    requires { fits_body pdu.now.body ≡ true }
+    ensures { IfOk result (λ bytes. bytes.items ≡ encoded_as pdu.now 0) }
+{
+    let room = stub_length(&pdu.body).saturating_add(WITHOUT_STUB);
+    let mut out = Writer::with_capacity(alloc, room)?;
+    put_header(&mut out, &header_for(pdu, 0))?;
     put_body(&mut out, &pdu.body)?;
     Ok(out.into_vec())
+}
+
+/// The bytes of a PDU with their number in its header.
+fn with_length(mut bytes: Vec<u8>) -> Vec<u8>
+    requires long { 16 ≤ length bytes.items }
+    requires short { length bytes.items ≤ 5840 }
+    ensures { result.items ≡ with_length (length bytes.items) bytes.items }
+{
+    let length = (bytes.len() as u16).to_le_bytes();
+    bytes[LENGTH_AT] = length[0];
+    bytes[LENGTH_AT + 1] = length[1];
+    bytes
 }
 
 /// The bytes of a PDU, which [`decode`] reads as that PDU, whatever follows.
@@ -87,6 +118,5 @@ pub fn encode(alloc: Global, pdu: &Pdu) -> Result<Vec<u8>, AllocError>
     requires short { length (encoded_as pdu.now 0) ≤ 5840 }
     ensures { IfOk result (λ bytes. bytes.items ≡ encoded pdu.now) }
 {
-    let size = write_with(alloc, pdu, 0)?.len();
-    write_with(alloc, pdu, size as u16)
+    Ok(with_length(write_unsized(alloc, pdu)?))
 }

@@ -1,5 +1,5 @@
 // What holds of every PDU, each law the contract of a function that does nothing.
-ghost use Rattle.rpc_pdu.specs.Laws.{MoreChangesNothing, PdusAreReadAsSpelled, PdusAreSpelled, PdusReadBack, WhatIsReadIsSpelled, WhatIsReadIsWritable};
+ghost use Rattle.rpc_pdu.specs.Laws.{MoreChangesNothing, NeverBoth, NoneBegins, PdusAreReadAsSpelled, PdusAreSpelled, PdusReadBack, WhatIsReadIsSpelled, WhatIsReadIsWritable};
 
 /// What [`encode`] gives is a spelling of its PDU.
 ///
@@ -8,10 +8,16 @@ pub fn pdus_are_spelled()
     ensures { PdusAreSpelled }
 {}
 
-/// A spelling is read as its PDU, whatever follows: so no spelling begins another, bytes spell one
-/// PDU at most, and no spelling is refused.
+/// A spelling is read as its PDU, whatever follows.
 pub fn pdus_are_read_as_spelled()
     ensures { PdusAreReadAsSpelled }
+{}
+
+/// Bytes spell one PDU at most, no spelling begins another, and bytes that begin with one aren't
+/// refused.
+pub fn spellings_are_apart()
+    ensures one { NoneBegins }
+    ensures never_both { NeverBoth }
 {}
 
 /// What is read is a spelling of what it is read as.

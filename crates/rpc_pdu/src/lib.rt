@@ -24,7 +24,7 @@ pub use decoding::decode;
 pub use encoding::encode;
 pub use laws::{
     more_bytes_change_nothing, pdus_are_read_as_spelled, pdus_are_spelled, pdus_read_back,
-    what_is_read_is_spelled, what_is_read_is_writable,
+    spellings_are_apart, what_is_read_is_spelled, what_is_read_is_writable,
 };
 pub use pdu::{Pdu, PduBody};
 pub use refusal::{PduBad, PduError};

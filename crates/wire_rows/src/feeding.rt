@@ -65,7 +65,8 @@ fn take_sized(alloc: Global, splitter: &mut Splitter) -> Result<Option<(Pdu, usi
 
 /// Says something behind which more is said.
 fn say(said: &mut String, part: &str) -> Result<(), AllocError>
-    ensures { OnOk result (string_bytes said.new ≡ string_bytes said.old ++ (part.now ++ codes "; ")) }
+    ensures { OnOk result
+        (string_bytes said.new ≡ string_bytes said.old ++ (part.now ++ codes "; ")) }
 {
     said.push_str(part)?;
     said.push_str(BETWEEN)
@@ -90,7 +91,8 @@ impl Stream {
         size: usize,
         said: &mut String,
     ) -> Result<Turn, AllocError>
-        ensures { IfOk result (λ turn. Tells turn (pdu, size) self.old self.new (string_bytes said.old) (string_bytes said.new)) }
+        ensures { IfOk result (λ turn. Tells turn (pdu, size) self.old self.new
+            (string_bytes said.old) (string_bytes said.new)) }
     {
         say(said, pdu_text(alloc, size, &pdu.body)?.as_str())?;
         match feed(&mut self.assembler, pdu) {
@@ -109,7 +111,8 @@ impl Stream {
 
     /// Takes the next PDU, and says what there is.
     fn turn(&mut self, alloc: Global, said: &mut String) -> Result<Turn, AllocError>
-        ensures { IfOk result (λ turn. Turns turn self.old self.new (string_bytes said.old) (string_bytes said.new)) }
+        ensures { IfOk result (λ turn. Turns turn self.old self.new
+            (string_bytes said.old) (string_bytes said.new)) }
     {
         match take_sized(alloc, &mut self.splitter) {
             Ok(None) => Ok(Turn::Waits),
@@ -125,7 +128,8 @@ impl Stream {
     /// Takes all PDUs that are there in full, and says whether the stream goes on.
     fn drain(&mut self, alloc: Global, said: &mut String) -> Result<bool, AllocError>
         requires { AreBytes self.old.splitter.rest }
-        ensures { IfOk result (λ goes. Drains goes self.old self.new (string_bytes said.old) (string_bytes said.new)) }
+        ensures { IfOk result (λ goes. Drains goes self.old self.new
+            (string_bytes said.old) (string_bytes said.new)) }
     {
         'turns: loop {
             match self.turn(alloc, said)? {

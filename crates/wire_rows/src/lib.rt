@@ -1,8 +1,8 @@
 //! Rows that ask what bytes of the protocol are, and their answers.
 //!
 //! Read [`WireRow`] first. [`row_of`] reads one row of text, and [`answer`] gives the text that
-//! answers it, without a line feed. What a row is, is said in `specs/Reading.antt`, and what answers
-//! it in `specs/Answering.antt`.
+//! answers it, without a line feed. What a row is, is said in `specs/Reading.antt`, and what
+//! answers it in `specs/Answering.antt`.
 #![tactic(auto)]
 
 mod answering;
