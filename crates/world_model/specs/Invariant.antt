@@ -57,6 +57,8 @@ pub record NumbersAreFresh (m : Maps) (consumed : ℕ) : Type 0 where
   pub first : (fid : ℕ) (o : Object) → IsAt m fid o → o.tag ≡ None → o.born ≤ o.last_local
   pub entries : (n : ℕ) (r : VolRecord) → m.entry n ≡ Some r → n < m.next_usn
   pub consumed_is : consumed ≤ m.next_usn
+  -- the journal has the record of each USN from 9 on
+  pub whole : (n : ℕ) → 9 ≤ n → n < m.next_usn → (r : VolRecord) × (m.entry n ≡ Some r)
 
 -- kept besides: the local records that aren't consumed say which objects changed
 pub record JournalIsTrue (own : ℕ) (m : Maps) (consumed : ℕ) : Type 0 where
