@@ -1,5 +1,6 @@
 // The folder of a member.
 ghost use Rattle.std.specs.Prelude.{◌≡◌, if◌then◌else◌, IfOk, OnErr};
+ghost use Rattle.frs_base.specs.Identifiers.{content_set};
 ghost use Rattle.folder_core.specs.Replay.{Does, IsEarlyEvent, IsFolder, fresh_folder};
 ghost use Rattle.folder_core.specs.Sound.{IsSound};
 
@@ -44,9 +45,11 @@ impl Model for Folder {
 }
 
 impl Folder {
-    /// A member of this kind, with this database, of this content set, that has done nothing. It
-    /// takes no memory.
+    /// A member of this kind, with this database, of this content set, that has done nothing. The
+    /// set is [`frs_base::content_set`], so that the root that the volume has is the one that the
+    /// book refuses updates of. It takes no memory.
     pub fn new(kind: MemberKind, own: Guid, set: Guid) -> Folder
+        requires { set ≡ content_set }
         ensures { result ≡ fresh_folder kind own set }
     {
         Folder {
