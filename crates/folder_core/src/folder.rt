@@ -13,9 +13,6 @@ use std::alloc::{AllocError, Global};
 use std::marker::Model;
 use vol_state::Volume;
 
-/// A history longer than this is want of memory, so that no number of 64 bits runs over.
-const LONGEST: usize = 0x4000_0000_0000_0000;
-
 /// A member's volume and book, and the history of all that came to it.
 ///
 /// It is the replay of its history from a fresh member. A contract sees both states, the history,
@@ -100,9 +97,6 @@ impl Folder {
         ensures err { OnErr result (self.new ≡ self.old) }
     {
         let length = self.history.as_slice().len();
-        if length >= LONGEST {
-            return Err(AllocError);
-        }
         let at = length as u64 + 1;
         let note = Note::of(alloc, &event)?;
         self.history.reserve_one(alloc)?;
