@@ -599,7 +599,12 @@ fn try_often(rt: &impl Abort, alloc: Global, folder: &mut Folder, times: u64) ->
         answered(alloc, folder, consume(turn)?)?;
     }
     assert_eq!(rt; entries(folder), 5_000);
-    try_rows(rt, alloc, folder, "put x 2 -> usn 2509 | 2510 2509 1 1 5000")
+    try_rows(
+        rt,
+        alloc,
+        folder,
+        "put x 2 -> usn 2509 | 2510 2509 1 1 5000",
+    )
 }
 
 /// A history goes on past any bound that a test is likely to have.
