@@ -1,18 +1,14 @@
 -- Versions and clocks stay in their bounds.
-use Rattle.std.proofs.Common.{◌≡◌, ◌<◌, ◌≤◌, ◌^◌, ℕ, true, List, Option, Some, None, sym, ap, ◌∙◌, subst, inl, inr, arith}
+use Rattle.std.proofs.Common.{◌<◌, ◌≤◌, ◌^◌, ℕ, List, Option, Some, None, sym, subst, arith}
 use Rattle.std.specs.Prelude.{MatchOption, option_map}
 use Rattle.std.specs.List.{AllByRecursion}
-use Rattle.frs_base.specs.declared.version.Gvsn.{Gvsn}
-use Rattle.version_vector.specs.Versions.{covers}
 use Rattle.version_vector.specs.declared.interval.Interval.{Interval}
 use Rattle.win_order.specs.declared.update.Update.{Update}
 use Rattle.record_db.specs.declared.command.BookCmd.TheVariants.{RecordLocal, Adopt, Finish}
 use Rattle.record_db.specs.Lists.{put_any}
-use Rattle.record_db.specs.Records.{both, plus}
 use Rattle.record_db.specs.State.{BookState}
-use Rattle.record_db.specs.Steps.{Changes, in_set, own_version}
+use Rattle.record_db.specs.Steps.{Changes, in_set}
 use Rattle.record_db.proofs.Lists.{put_all}
-use Rattle.record_db.proofs.Sets.{both_cases, plus_cases}
 use Rattle.folder_core.specs.Sound.{IsInBounds}
 
 -- the clock of an update, if there is one, is below 2^62

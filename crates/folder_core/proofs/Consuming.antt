@@ -191,7 +191,7 @@ may_adopt m u form h fits none staged =
     let below : u.gvsn.version < 2 ^ 64 - 1 = omega (arith, fits, last) in
     record {
       allowed = both_so _ _ (small u.gvsn.version below) (both_so _ _ (ap not clear.version_ahead) (both_so _ _ (ap not clear.file_ahead) (both_so _ _ (ap not clear.new) (gives_way_to m u clear))));
-      sound = λ new book c. adopted_sound m u form new h clear.taken.set_is clear.taken.clock (λ set. is_fit m u h.order clear set) staged book c;
+      sound = λ new book c. adopted_sound m u form new h clear.taken.set_is clear.taken.clock (is_fit m u h.order clear h.set) staged book c;
       changes = λ new c same. (let covered : covers m.book.vector u.gvsn ≡ true = ap (λ l. covers l u.gvsn) (sym same) ∙ (c.vector.covering u.gvsn ∙ plus_new (covers m.book.vector) u.gvsn) in cc (covered, clear.new));
     }
   where

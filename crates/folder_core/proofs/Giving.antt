@@ -1,11 +1,9 @@
 -- A present file is given with a form that has its record's hash.
-use Rattle.std.proofs.Common.{◌≡◌, ◌<◌, ◌≤◌, ◌+◌, ◌^◌, ◌++◌, ◌⊎◌, ℕ, Bool, true, false, List, [], ◌∷◌, length, Option, Some, None, refl, sym, ap, ◌∙◌, subst, inl, inr, arith}
+use Rattle.std.proofs.Common.{◌≡◌, ◌<◌, ◌^◌, ℕ, List, [], ◌∷◌, length, Option, Some, None, refl, sym, ap, ◌∙◌, subst, inl, inr, arith}
 use Rattle.std.specs.Prelude.{if◌then◌else◌, option_map}
 use Rattle.std.proofs.lemmas.List.{length-append}
 use Rattle.frs_base.specs.Options.{In}
-use Rattle.frs_base.specs.declared.kind.Kind.{Kind}
 use Rattle.frs_base.specs.declared.kind.Kind.TheVariants as kind
-use Rattle.frs_base.specs.declared.sum.Sum.{Sum}
 use Rattle.frs_base.specs.declared.version.Uid.{Uid}
 use Rattle.marshal_form.specs.Laws.{SpellingsAreForms}
 use Rattle.marshal_form.specs.Local.{IsLocalForm, local}
@@ -17,15 +15,14 @@ use Rattle.vol_state.specs.Maps.{maps_of}
 use Rattle.vol_state.specs.Pending.{IsLastPending}
 use Rattle.vol_state.specs.State.{object_of, uid_of}
 use Rattle.vol_state.specs.Sums.{content_sum, file_sum}
-use Rattle.vol_state.specs.Tables.{IsAt}
+use Rattle.vol_state.proofs.Finding.{at_in}
 use Rattle.vol_state.proofs.Recent.{pending_is_last}
 use Rattle.record_db.specs.State.{form_of}
 use Rattle.record_db.proofs.Lists.{find_at}
 use Rattle.name_rules.specs.Next.{IsPending}
 use Rattle.name_rules.specs.Recorded.{held_of}
-use Rattle.name_rules.specs.Tree.{is_file, kind_of}
-use Rattle.pinned_pages.specs.declared.answer.FileAnswer.{FileAnswer}
-use Rattle.pinned_pages.specs.declared.answer.FileAnswer.TheVariants.{Found, NotYet, NoRecord}
+use Rattle.name_rules.specs.Tree.{is_file}
+use Rattle.pinned_pages.specs.declared.answer.FileAnswer.TheVariants.{Found}
 use Rattle.world_model.specs.Folder.{FolderIsSound, IsFound}
 use Rattle.world_model.specs.Invariant.{HasSum}
 use Rattle.world_model.proofs.Installed.{file_kind}
@@ -33,7 +30,7 @@ use Rattle.folder_core.specs.Laws.{FilesHaveForms}
 use Rattle.folder_core.specs.Machine.{Machine, first_of}
 use Rattle.folder_core.specs.Notes.{form_sum}
 use Rattle.folder_core.specs.Serve.{answer_by, form_at}
-use Rattle.folder_core.specs.Sound.{Agrees, IsSound, member_of, staged_sums}
+use Rattle.folder_core.specs.Sound.{member_of, staged_sums}
 use Rattle.folder_core.proofs.Alike.{stands_for_maps}
 use Rattle.folder_core.proofs.Fitting.{object_found}
 use Rattle.folder_core.proofs.Held.{held_is}
@@ -101,13 +98,13 @@ object_form forms m uid u o none found same is_file sum = (
     below short = let long = length-append (head_of local (length o.bytes)) o.bytes in omega (arith, long, short)
 
 pub files_have_forms : SpellingsAreForms → FilesHaveForms
-files_have_forms forms at place m uid u body h set found file =
+files_have_forms forms at place m uid u body h found file =
     let g = gives at place m uid u body found in
     let (form, is, sum, local) = by (form_of m.book uid) refl g in
     (form, g.body_is ∙ (ap (λ b. if b then form_at m uid else None) file ∙ is), sum, local)
   where
     agrees : FolderIsSound m.book.own (member_of m) m.book.records
-    agrees = h.agrees set
+    agrees = h.agrees
 
     held_in : Gives m uid u body → In u m.book.records × (u.uid ≡ uid)
     held_in g = subst (IsFound m.book.records uid) g.held (held_is m.book.records uid)
@@ -124,7 +121,7 @@ files_have_forms forms at place m uid u body h set found file =
         let (among, is) = held_in g in
         let kind = sym (agrees.member.objects.kinds fid o u there among (sym of)) ∙ file_kind u file in
         let here = object_found m.volume h.order.volume fid o uid there (ap (λ own. uid_of own o) h.order.own ∙ (of ∙ is)) in
-        object_form forms m uid u o none here sum kind (h.sums fid o there)
+        object_form forms m uid u o none here sum kind (h.order.volume.summed o (at_in fid o m.volume.objects there).0).sum
 
     by : (staged : Option (List ℕ)) → form_of m.book uid ≡ staged → Gives m uid u body → HasForm m uid u
     by (Some f) p g =

@@ -12,7 +12,7 @@ use Rattle.vol_state.specs.Conditions.{is_allowed, step}
 use Rattle.vol_state.specs.Effects.{effect}
 use Rattle.vol_state.specs.Journal.{IsNumbered}
 use Rattle.vol_state.specs.Laws.{AreFree, KeepsNumbering, LeavesNumbersFree}
-use Rattle.vol_state.specs.Maps.{StandsOn, maps_of, write}
+use Rattle.vol_state.specs.Maps.{StandsOn, maps_of}
 use Rattle.vol_state.specs.Tables.{IsLocal}
 use Rattle.vol_state.specs.Valid.{IsVolume}
 use Rattle.vol_state.specs.Seen.{fresh_state}
@@ -23,12 +23,10 @@ use Rattle.record_db.specs.Steps.{Changes, consumed_after}
 use Rattle.world_model.specs.Folder.{IsFit}
 use Rattle.name_rules.specs.Tree.{is_file}
 use Rattle.world_model.proofs.Folder.{folders_begin}
-use Rattle.world_model.proofs.Sums.{AreSummed, write_sums}
 use Rattle.folder_core.specs.Machine.{Machine, fresh_machine}
 use Rattle.folder_core.specs.Consume.{made_at}
 use Rattle.folder_core.specs.Sound.{IsInOrder, IsSound, member_of}
 use Rattle.folder_core.specs.Notes.{form_sum}
-use Rattle.folder_core.proofs.Alike.{maps_are, stands_for_maps}
 use Rattle.folder_core.proofs.Staging.{IsStageable, forms_made, forms_stay, forms_with}
 use Rattle.folder_core.proofs.Volumes.{free_fresh, has_all, in_time, one_fid, one_usn, same_own, step_is}
 use Rattle.folder_core.proofs.Bounds.{HasClock, bounds_adopted, bounds_finished, bounds_recorded}
@@ -41,8 +39,8 @@ pub record VolumeLaws : Type 0 where
   pub free : LeavesNumbersFree
 
 -- a machine that has done nothing is sound
-pub fresh_is_sound : (kind : MemberKind) (own set : ℕ) → IsVolume (fresh_state own) → IsBook (fresh_book kind own set) → IsSound (fresh_machine kind own set)
-fresh_is_sound kind own set volume book = record {
+pub fresh_is_sound : (kind : MemberKind) (own set : ℕ) → set ≡ content_set → IsVolume (fresh_state own) → IsBook (fresh_book kind own set) → IsSound (fresh_machine kind own set)
+fresh_is_sound kind own set same volume book = record {
   order = record {
     own = refl;
     volume = volume;
@@ -57,8 +55,8 @@ fresh_is_sound kind own set volume book = record {
     clocks = tt;
   };
   forms = λ uid form e. absurd (none_some form e);
-  sums = λ fid o at. absurd (none_some o at);
-  agrees = λ same. folders_begin own kind;
+  set = same;
+  agrees = folders_begin own kind;
 }
   where
     none_some : {T : Type 0} (x : T) → None ≡ Some x → ⊥
@@ -85,10 +83,8 @@ operated_sound laws m op h numbers allowed local volume = record {
   };
   bounds = h.bounds;
   forms = h.forms;
-  sums = subst AreSummed
-      (maps_are (effect op m.volume) (write m.volume.own op (maps_of m.volume)) (laws.on op m.volume (maps_of m.volume) h.order.volume h.order.free allowed (stands_for_maps m.volume)))
-      (write_sums m.volume.own op (maps_of m.volume) h.sums);
-  agrees = λ set. agrees_operated laws.on m op h.order allowed local (h.agrees set);
+  set = h.set;
+  agrees = agrees_operated laws.on m op h.order allowed local h.agrees;
 }
 
 -- ---- the book
@@ -111,8 +107,8 @@ recorded_sound m moment made new h is has left book c = record {
   order = order_after m (cmd.RecordLocal m.book.consumed made) new h.order (omega (arith, left)) book c;
   bounds = bounds_recorded m.book new made h.bounds has c;
   forms = forms_made m.book new made c.staged h.forms;
-  sums = h.sums;
-  agrees = λ set. agrees_recorded m moment made new h.order (sym c.set ∙ set) is h.bounds.begun left c (h.agrees (sym c.set ∙ set));
+  set = c.set ∙ h.set;
+  agrees = agrees_recorded m moment made new h.order h.set is h.bounds.begun left c h.agrees;
 }
 
 -- what is staged of an update: the form with its hash of a present file, which is one of a local file, and nothing of all else
@@ -122,14 +118,14 @@ pub record IsStagedOf (u : Update) (form : Option (List ℕ)) : Type 0 where
 
 -- taking a fit update does
 pub adopted_sound : (m : Machine) (u : Update) (form : Option (List ℕ)) (new : BookState) → IsSound m → u.set ≡ m.book.set → u.clock < 2 ^ 62
-    → (m.book.set ≡ content_set → IsFit m.book.own (member_of m) m.book.records u) → IsStagedOf u form
+    → IsFit m.book.own (member_of m) m.book.records u → IsStagedOf u form
     → IsBook new → Changes (cmd.Adopt u form) m.book new → IsSound (record m { book = new })
 adopted_sound m u form new h set clock fit staged book c = record {
   order = order_after m (cmd.Adopt u form) new h.order h.order.consumed book c;
   bounds = bounds_adopted m.book new u form h.bounds clock c;
   forms = forms_with m.book new u.uid form c.staged staged.local h.forms;
-  sums = h.sums;
-  agrees = λ same. agrees_adopted m u form new set (fit (sym c.set ∙ same)) staged.sum c (h.agrees (sym c.set ∙ same));
+  set = c.set ∙ h.set;
+  agrees = agrees_adopted m u form new set fit staged.sum c h.agrees;
 }
 
 -- finishing a round over a fit vector does
@@ -139,6 +135,6 @@ finished_sound m sent new h fit book c = record {
   order = order_after m (cmd.Finish sent) new h.order h.order.consumed book c;
   bounds = bounds_finished m.book new sent h.bounds c;
   forms = forms_stay m.book new c.staged h.forms;
-  sums = h.sums;
-  agrees = λ same. agrees_finished m sent new fit c (h.agrees (sym c.set ∙ same));
+  set = c.set ∙ h.set;
+  agrees = agrees_finished m sent new fit c h.agrees;
 }

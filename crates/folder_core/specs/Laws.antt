@@ -1,6 +1,5 @@
 -- Laws of the machine of a member.
 use Rattle.std.specs.Prelude.{◌≡◌, ◌<◌, ◌+◌, ◌^◌, ℕ, true, List, [], ◌∷◌, Option, Some, length}
-use Rattle.frs_base.specs.Identifiers.{content_set}
 use Rattle.frs_base.specs.declared.version.Uid.{Uid}
 use Rattle.marshal_form.specs.Local.{IsLocalForm}
 use Rattle.win_order.specs.declared.update.Update.{Update}
@@ -31,5 +30,5 @@ RunsAreOne = (at : ℕ) (old : Machine) (events : List Event) (a b : List Reply)
 
 -- a present file is given with a form that has its record's hash, and is one of a local file
 abbrev pub FilesHaveForms : Type 0
-FilesHaveForms = (at place : ℕ) (m : Machine) (uid : Uid) (u : Update) (body : Option (List ℕ)) → IsSound m → m.book.set ≡ content_set → file_answer at m uid ≡ Found place u body → is_file u ≡ true
+FilesHaveForms = (at place : ℕ) (m : Machine) (uid : Uid) (u : Update) (body : Option (List ℕ)) → IsSound m → file_answer at m uid ≡ Found place u body → is_file u ≡ true
     → (form : List ℕ) × (body ≡ Some form) × (form_sum form ≡ u.hash) × (length form < 2 ^ 64 → (contents : List ℕ) × IsLocalForm form contents)

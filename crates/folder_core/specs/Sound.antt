@@ -1,18 +1,14 @@
 -- What is true of every member's machine, whatever its partners send.
-use Rattle.std.specs.Prelude.{◌≡◌, ◌<◌, ◌≤◌, ◌^◌, ℕ, true, List, Option, Some, option_map}
+use Rattle.std.specs.Prelude.{◌≡◌, ◌<◌, ◌≤◌, ◌^◌, ℕ, List, Option, Some, option_map}
 use Rattle.std.specs.List.{AllByRecursion}
 use Rattle.frs_base.specs.Identifiers.{content_set}
 use Rattle.frs_base.specs.declared.sum.Sum.{Sum}
-use Rattle.frs_base.specs.declared.version.Gvsn.{Gvsn}
 use Rattle.frs_base.specs.declared.version.Uid.{Uid}
 use Rattle.marshal_form.specs.Local.{IsLocalForm}
 use Rattle.version_vector.specs.Versions.{covers}
 use Rattle.vol_state.specs.Journal.{IsNumbered}
 use Rattle.vol_state.specs.Laws.{AreFree}
-use Rattle.vol_state.specs.declared.object.Object.{Object}
 use Rattle.vol_state.specs.Maps.{maps_of}
-use Rattle.vol_state.specs.Sums.{content_sum}
-use Rattle.vol_state.specs.Tables.{IsAt}
 use Rattle.vol_state.specs.Valid.{IsVolume}
 use Rattle.record_db.specs.State.{BookState, IsBook, form_of}
 use Rattle.world_model.specs.Folder.{FolderIsSound}
@@ -48,10 +44,6 @@ pub record IsInBounds (book : BookState) : Type 0 where
 abbrev pub HasForms : BookState → Type 0
 HasForms book = (uid : Uid) (form : List ℕ) → form_of book uid ≡ Some form → (contents : List ℕ) × IsLocalForm form contents
 
--- each object has the sum of its contents
-abbrev pub HasSums : Machine → Type 0
-HasSums m = (fid : ℕ) (o : Object) → IsAt (maps_of m.volume) fid o → o.sum ≡ content_sum o.kind o.bytes
-
 -- the journal's USNs run from 9 without a gap up to the next, all numbers in use are below the next ones
 pub record IsInOrder (m : Machine) : Type 0 where
   pub own : m.volume.own ≡ m.book.own
@@ -62,10 +54,10 @@ pub record IsInOrder (m : Machine) : Type 0 where
   pub book : IsBook m.book
   pub consumed : m.book.consumed ≤ m.volume.next_usn
 
--- all of that
+-- all of that, of the one content set whose root the volume knows
 pub record IsSound (m : Machine) : Type 0 where
   pub order : IsInOrder m
   pub bounds : IsInBounds m.book
   pub forms : HasForms m.book
-  pub sums : HasSums m
-  pub agrees : m.book.set ≡ content_set → Agrees m
+  pub set : m.book.set ≡ content_set
+  pub agrees : Agrees m

@@ -1,5 +1,6 @@
 // The folder of a member.
 ghost use Rattle.std.specs.Prelude.{◌≡◌, if◌then◌else◌, IfOk, OnErr};
+ghost use Rattle.frs_base.specs.Identifiers.{content_set};
 ghost use Rattle.folder_core.specs.Replay.{Does, IsEarlyEvent, IsFolder, fresh_folder};
 ghost use Rattle.folder_core.specs.Sound.{IsSound};
 
@@ -11,9 +12,6 @@ use record_db::Book;
 use std::alloc::{AllocError, Global};
 use std::marker::Model;
 use vol_state::Volume;
-
-/// A history longer than this is want of memory, so that no number of 64 bits runs over.
-const LONGEST: usize = 0x4000_0000_0000_0000;
 
 /// A member's volume and book, and the history of all that came to it.
 ///
@@ -44,9 +42,11 @@ impl Model for Folder {
 }
 
 impl Folder {
-    /// A member of this kind, with this database, of this content set, that has done nothing. It
-    /// takes no memory.
+    /// A member of this kind, with this database, of this content set, that has done nothing. The
+    /// set is [`frs_base::content_set`], so that the root that the volume has is the one that the
+    /// book refuses updates of. It takes no memory.
     pub fn new(kind: MemberKind, own: Guid, set: Guid) -> Folder
+        requires { set ≡ content_set }
         ensures { result ≡ fresh_folder kind own set }
     {
         Folder {
@@ -97,9 +97,6 @@ impl Folder {
         ensures err { OnErr result (self.new ≡ self.old) }
     {
         let length = self.history.as_slice().len();
-        if length >= LONGEST {
-            return Err(AllocError);
-        }
         let at = length as u64 + 1;
         let note = Note::of(alloc, &event)?;
         self.history.reserve_one(alloc)?;

@@ -1,5 +1,6 @@
 // The machine of a member.
 ghost use Rattle.std.specs.Prelude.{◌≡◌, ◌<◌, ◌-◌, ◌^◌, IfOk, OnErr};
+ghost use Rattle.frs_base.specs.Identifiers.{content_set};
 ghost use Rattle.folder_core.specs.Answers.{Answers};
 ghost use Rattle.folder_core.specs.Given.{IsNoted};
 ghost use Rattle.folder_core.specs.Machine.{fresh_machine};
@@ -43,6 +44,7 @@ impl Model for Machine {
 impl Machine {
     /// The machine of a member that has done nothing.
     pub(crate) fn new(kind: MemberKind, own: Guid, set: Guid) -> Machine
+        requires { set ≡ content_set }
         ensures { result ≡ fresh_machine kind own set }
     {
         let volume = Volume::new(own);

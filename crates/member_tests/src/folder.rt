@@ -299,7 +299,18 @@ fn row_of(alloc: Global, folder: &mut Folder, line: &str) -> Result<String, Fail
     Ok(format!(in alloc; "{line} -> {said} | {state}")?)
 }
 
-/// Each row is an event, its reply, and what the folder is then.
+/// Each entry can be copied, and its copy has the caller 7.
+fn are_copied(alloc: Global, folder: &Folder) -> Result<bool, Fail> {
+    for entry in folder.history() {
+        if entry.copy(alloc)?.caller != 7 {
+            return Ok(false);
+        }
+    }
+    Ok(true)
+}
+
+/// Each row is an event, its reply, and what the folder is then. Each is in the history, whose
+/// entries can be copied.
 fn try_rows(rt: &impl Abort, alloc: Global, folder: &mut Folder, rows: &str) -> Result<(), Fail> {
     for row in rows.lines() {
         let line = match row.split_once(" -> ") {
@@ -310,6 +321,7 @@ fn try_rows(rt: &impl Abort, alloc: Global, folder: &mut Folder, rows: &str) -> 
         assert_eq!(rt; row_of(alloc, folder, line)?.as_str(), row);
         assert!(rt; length < entries(folder), "{line}");
     }
+    assert!(rt; are_copied(alloc, folder)?);
     Ok(())
 }
 
@@ -389,16 +401,6 @@ consume 20 -> the clock 4611686018427387904 is too far ahead | 11 10 2 1 3",
     )
 }
 
-/// A copy of each entry has the caller 7.
-fn are_of_caller(alloc: Global, folder: &Folder) -> Result<bool, Fail> {
-    for entry in folder.history() {
-        if entry.copy(alloc)?.caller != 7 {
-            return Ok(false);
-        }
-    }
-    Ok(true)
-}
-
 /// How far the member has come.
 fn phase(folder: &Folder) -> Phase {
     folder.book().phase()
@@ -419,7 +421,6 @@ put x 3 -> usn 11 | 12 10 1 1 3
 get 1 9 -> not yet 11 | 12 10 1 1 3
 vector -> sent 1 of 1 at 8 | 12 10 1 1 3",
     )?;
-    assert!(rt; are_of_caller(alloc, folder)?);
     assert!(rt; entries(folder) == 8 && phase(folder) == Phase::Initial);
     Ok(())
 }
@@ -589,4 +590,26 @@ file 3 9 2 9 10 -> a vector of 65537 intervals | 9 9 65536 0 2
 put f 1 -> usn 9 | 10 9 65536 0 2
 consume 10 -> a vector of 65537 intervals | 10 9 65536 0 2",
     )
+}
+
+/// Puts over a file and consumes the change, so often.
+fn try_often(rt: &impl Abort, alloc: Global, folder: &mut Folder, times: u64) -> Result<(), Fail> {
+    for turn in 0..times {
+        said(alloc, folder, "put x 1")?;
+        answered(alloc, folder, consume(turn)?)?;
+    }
+    assert_eq!(rt; entries(folder), 5_000);
+    try_rows(
+        rt,
+        alloc,
+        folder,
+        "put x 2 -> usn 2509 | 2510 2509 1 1 5000",
+    )
+}
+
+/// A history goes on past any bound that a test is likely to have.
+#[test]
+fn five_thousand_events_of_one_member(rt: HostRuntime) -> Result<(), Fail> {
+    let mut folder = primary();
+    try_often(&rt, rt.alloc(), &mut folder, 2_500)
 }

@@ -1,12 +1,12 @@
--- The small sets of records, computed.
-use Rattle.std.proofs.Common.{◌≡◌, ℕ, zero, suc, true, false, [], ◌∷◌, refl, sym, ap, ◌∙◌, subst, arith, inl, inr}
-use Rattle.frs_base.specs.Names.{matches}
+-- The small sets of records and the small journal, computed.
+use Rattle.std.proofs.Common.{◌≡◌, ◌≤◌, ℕ, zero, suc, true, false, [], ◌∷◌, refl, sym, ap, ◌∙◌, subst, arith, inl, inr, Some}
 use Rattle.frs_base.specs.Options.{In}
-use Rattle.win_order.specs.Order.{is_directory, key_lt, key_of}
+use Rattle.win_order.specs.Order.{key_lt, key_of}
 use Rattle.win_order.specs.declared.update.Update.{Update}
-use Rattle.vol_state.specs.Conditions.{root_uid}
+use Rattle.vol_state.specs.declared.record.VolRecord.{VolRecord}
+use Rattle.name_rules.specs.Next.{Do, Drained, IsAnswer, Next, NotYet}
 use Rattle.name_rules.specs.Tree.{HasName, IsShown, ShownBy}
-use Rattle.name_rules.specs.Examples.{AloneIsShown, Among, ChildOfPresent, ChildOfRemoved, MatchingNames, capital, child, removed, small}
+use Rattle.name_rules.specs.Examples.{AloneIsShown, Among, ChildOfPresent, ChildOfRemoved, ComesFirst, MatchingNames, PendingComesFirst, capital, child, removed, small, two_puts}
 
 not_true : {P : Type 0} → true ≡ false → P
 not_true e = absurd (cc)
@@ -79,3 +79,20 @@ child_of_present = (2, (name child (inr (inl refl)) refl lowest, inr (there, ref
     first v (inl e) up = subst (λ u. key_lt (key_of there) (key_of u) ≡ false) (sym e) refl
     first v (inr (inl e)) up = (let bad : 9 ≡ 1 = ap (λ i. i.version) (sym (ap (λ w. w.parent) e) ∙ up) in absurd (omega (arith, bad)))
     first v (inr (inr h)) up = absurd h
+
+-- ---- two pending records
+
+local_first : (usn : ℕ) (r : VolRecord) → two_puts.entry usn ≡ Some r → r.local ≡ true → ComesFirst usn
+local_first usn r at local records staged next =
+    (to next, λ e. subst (IsAnswer (Among records) 1 two_puts staged usn) (sym e) (record { pending = (r, omega arith, at, local); least = λ n p. p.1 }))
+  where
+    to : (next : Next) → IsAnswer (Among records) 1 two_puts staged usn next → next ≡ NotYet usn
+    to (Do step) (quiet, is) = not_true (sym local ∙ quiet usn r (omega arith) at)
+    to Drained drained = not_true (sym local ∙ drained.quiet usn r (omega arith) at)
+    to (NotYet n) first = ap NotYet (same (first.least usn (r, omega arith, at, local)) first.pending.1)
+      where
+        same : n ≤ usn → usn ≤ n → n ≡ usn
+        same low high = omega (arith, low, high)
+
+pub pending_comes_first : PendingComesFirst
+pending_comes_first = (local_first 9 _ refl refl, local_first 10 _ refl refl)

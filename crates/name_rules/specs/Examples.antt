@@ -1,11 +1,15 @@
--- Two small sets of records, computed.
-use Rattle.std.specs.Prelude.{◌≡◌, ℕ, Bool, true, false, List, [], ◌∷◌, replicate}
+-- Two small sets of records and a small journal, computed.
+use Rattle.std.specs.Prelude.{◌≡◌, ◌↔◌, ℕ, Bool, true, false, List, [], ◌∷◌, Option, replicate}
 use Rattle.frs_base.specs.Identifiers.{content_set}
 use Rattle.frs_base.specs.Options.{In}
+use Rattle.frs_base.specs.declared.sum.Sum.{Sum}
 use Rattle.frs_base.specs.declared.version.Uid.{Uid}
 use Rattle.win_order.specs.declared.update.Update.{Update}
 use Rattle.vol_state.specs.Conditions.{root_uid}
 use Rattle.vol_state.specs.Sums.{no_sum}
+use Rattle.vol_state.specs.declared.command.VolCmd.TheVariants.{PutNew, PutOver}
+use Rattle.vol_state.specs.Maps.{Maps, fresh_maps, write}
+use Rattle.name_rules.specs.Next.{IsAnswer, Next, NotYet}
 use Rattle.name_rules.specs.Tree.{IsShown}
 
 -- the record of a file or directory: of this member, born at this USN and not changed since, at this clock
@@ -64,3 +68,17 @@ ChildOfRemoved = (u : Update) → IsShown (Among (removed ∷ child ∷ [])) u �
 -- and c is, while p is there
 abbrev pub ChildOfPresent : Type 0
 ChildOfPresent = IsShown (Among (record removed { present = true } ∷ child ∷ [])) child
+
+-- ---- two pending records
+
+-- a volume in which the first member put a file and put over it: its journal has a record at 9, and one at 10
+abbrev pub two_puts : Maps
+two_puts = write 1 (PutOver 1 (0 ∷ [])) (write 1 (PutNew 0 (0x78 ∷ []) []) fresh_maps)
+
+-- where this record is consumed next it is to be consumed first, whatever is recorded and staged
+abbrev pub ComesFirst : ℕ → Type 0
+ComesFirst usn = (records : List Update) (staged : Uid → Option Sum) (next : Next) → IsAnswer (Among records) 1 two_puts staged usn next ↔ (next ≡ NotYet usn)
+
+-- so it is with each of the two
+abbrev pub PendingComesFirst : Type 0
+PendingComesFirst = ComesFirst 9 × ComesFirst 10

@@ -25,6 +25,15 @@ IsPending consumed m uid = (n : ℕ) × (r : VolRecord) × (consumed ≤ n) × (
 abbrev pub IsQuiet : ℕ → Maps → Type 0
 IsQuiet consumed m = (n : ℕ) (r : VolRecord) → consumed ≤ n → m.entry n ≡ Some r → r.local ≡ false
 
+-- the journal record with this USN is a local one that isn't consumed
+abbrev pub IsPendingAt : ℕ → Maps → ℕ → Type 0
+IsPendingAt consumed m usn = (r : VolRecord) × (consumed ≤ usn) × (m.entry usn ≡ Some r) × (r.local ≡ true)
+
+-- and the first of these
+pub record IsFirstPending (consumed : ℕ) (m : Maps) (usn : ℕ) : Type 0 where
+  pub pending : IsPendingAt consumed m usn
+  pub least : (other : ℕ) → IsPendingAt consumed m other → usn ≤ other
+
 -- ---- steps
 
 -- a step for a file, or for the journal record with a USN
@@ -113,6 +122,18 @@ place_lt a b = nat_lt a.0 b.0 || (a.0 == b.0 && uid_lt a.1 b.1)
 pub record IsNext (Records : Update → Type 0) (own : ℕ) (m : Maps) (staged : Uid → Option Sum) (consumed : ℕ) (step : Step) : Type 0 where
   pub candidate : IsCandidate Records own m staged consumed step
   pub first : (other : Step) → IsCandidate Records own m staged consumed other → place_lt (place_of other) (place_of step) ≡ false
+
+-- what a member does next: a step, nothing, or none before the local journal record with this USN is consumed
+pub data Next : Type 0 where
+  Do : Step → Next
+  Drained : Next
+  NotYet : ℕ → Next
+
+-- what it answers when it is asked
+abbrev pub IsAnswer : (Update → Type 0) → ℕ → Maps → (Uid → Option Sum) → ℕ → Next → Type 0
+IsAnswer Records own m staged consumed (Do step) = IsQuiet consumed m × IsNext Records own m staged consumed step
+IsAnswer Records own m staged consumed Drained = IsDrained Records own m staged consumed
+IsAnswer Records own m staged consumed (NotYet usn) = IsFirstPending consumed m usn
 
 -- no earlier kind has a candidate
 abbrev pub IsTurn : (Update → Type 0) → ℕ → Maps → (Uid → Option Sum) → Step → Type 0

@@ -1,5 +1,5 @@
 // Laws of the definitions.
-ghost use Rattle.name_rules.specs.Examples.{AloneIsShown, ChildOfPresent, ChildOfRemoved, MatchingNames};
+ghost use Rattle.name_rules.specs.Examples.{AloneIsShown, ChildOfPresent, ChildOfRemoved, MatchingNames, PendingComesFirst};
 ghost use Rattle.name_rules.specs.Recorded.{MakesOwnVersion, PassesReplicas};
 
 /// An update that a journal record makes has the own database and the record's USN as its version.
@@ -23,4 +23,9 @@ pub fn matching_names_show_the_greatest()
 pub fn children_of_what_is_removed_are_hidden()
     ensures hidden { ChildOfRemoved }
     ensures shown { ChildOfPresent }
+{}
+
+/// While local records are pending, a member does no step, and the first of them is to be consumed.
+pub fn pending_records_come_first()
+    ensures { PendingComesFirst }
 {}

@@ -12,4 +12,5 @@ pub use kinds::is_file;
 pub use laws::{
     children_of_what_is_removed_are_hidden, made_updates_have_their_version,
     matching_names_show_the_greatest, nothing_is_made_of_a_replica_record,
+    pending_records_come_first,
 };

@@ -29,6 +29,7 @@ pub mod Whole
 pub mod Speaking
 pub mod Beginning
 mod Halting
+mod Rounding
 pub mod Orders
 pub mod Once
 pub mod OneText

@@ -100,6 +100,6 @@ files_at forms w d u at m reply new s covered (said, same) =
       body = if is_file v then form_at m u.uid else None;
       file = is.1;
       of_file = (is.0, λ x. none_pending w d u.uid last (subst (IsPending (w.at d).consumed (w.at d).volume) is.1 x));
-      form = λ file. forms at at m u.uid v (if is_file v then form_at m u.uid else None) s.sound s.set (λ i. answer_by at (p i) (q i) (form_at m u.uid)) file;
+      form = λ file. forms at at m u.uid v (if is_file v then form_at m u.uid else None) s.sound (λ i. answer_by at (p i) (q i) (form_at m u.uid)) file;
       reply_is = e;
     })

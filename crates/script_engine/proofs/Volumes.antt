@@ -33,6 +33,7 @@ use Rattle.world_model.specs.Invariant.{Invariant, PlacesAreATree, NumbersAreFre
 use Rattle.world_model.proofs.Changing.{at_same}
 use Rattle.world_model.proofs.Facts.{some_is}
 use Rattle.world_model.proofs.Names.{matches_sym, matches_trans}
+use Rattle.world_model.proofs.Sums.{AreSummed}
 use Rattle.script_engine.specs.Sound.{AreLists}
 
 -- ---- what lists are, by the maps for which they stand
@@ -57,8 +58,9 @@ ends_by v m root s (suc n) fid (inr (o, at, inr (p, place, more))) =
     ap (λ x. none_or (ends_in v.objects (suc n)) (above_it x)) (sym (s.objects fid) ∙ at) ∙ ap (λ x. none_or (ends_in v.objects (suc n)) (option_map (λ p. p.0) x)) place
     ∙ ends_by v m root s n p.0 more
 
-volume_is : (own : ℕ) (consumed : ℕ) (v : State) (m : Maps) → PlacesAreATree own m → NumbersAreFresh m consumed → AreRising 0 v.objects → v.own ≡ own → Stands v m → IsVolume v
-volume_is own consumed v m places numbers up same s = record {
+volume_is : (own : ℕ) (consumed : ℕ) (v : State) (m : Maps) → PlacesAreATree own m → NumbersAreFresh m consumed → AreSummed m → AreRising 0 v.objects → v.own ≡ own → Stands v m
+    → IsVolume v
+volume_is own consumed v m places numbers sums up same s = record {
   tree = record {
     rising = up;
     homes = λ o i. home o i o.place refl;
@@ -69,6 +71,7 @@ volume_is own consumed v m places numbers up same s = record {
         one_of v m up s a b i j (places.apart a.fid b.fid a b p q (at_of v m up s a i) (at_of v m up s b j) there there' (above ∙ sym above') (matches_trans p.1 name q.1 fits (matches_sym q.1 name fits')));
   };
   uids = λ a b i j e. one_of v m up s a b i j (places.uids a.fid b.fid a b (at_of v m up s a i) (at_of v m up s b j) (subst (λ d. uid_of d a ≡ uid_of d b) same e));
+  summed = λ o i. sums o.fid o (at_of v m up s o i);
 }
   where
     home : (o : Object) → In o v.objects → (place : Option (ℕ × List ℕ)) → o.place ≡ place → IsHome v.objects place
@@ -135,7 +138,7 @@ free_is w d v h up numbered own s =
 -- lists that rise and are numbered are a volume's
 lists_are : (w : World) (d : ℕ) (v : State) → Invariant w → AreRising 0 v.objects → IsNumbered v → v.own ≡ d → Stands v (w.at d).volume → AreLists d (w.at d).volume v
 lists_are w d v h up numbered own s = record {
-  valid = volume_is d (w.at d).consumed v (w.at d).volume (h.members d).places (h.members d).numbers up own s;
+  valid = volume_is d (w.at d).consumed v (w.at d).volume (h.members d).places (h.members d).numbers (h.sums.objects d) up own s;
   free = free_is w d v h up numbered own s;
   numbered = numbered;
   own = own;
@@ -195,6 +198,7 @@ fresh_lists own = record {
   valid = record {
     tree = record { rising = tt; homes = λ o i. absurd i; ends = λ o i. absurd i; apart = λ a b parent name i j u v. absurd i };
     uids = λ a b i j e. absurd i;
+    summed = λ o i. absurd i;
   };
   free = record { fid = omega arith; usn = omega arith };
   numbered = record { run = tt; next = refl };

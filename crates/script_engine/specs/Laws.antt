@@ -1,8 +1,13 @@
--- What holds of the trees of volumes.
-use Rattle.std.specs.Prelude.{◌≡◌, List}
+-- What holds of the trees of volumes, and of pulls.
+use Rattle.std.specs.Prelude.{◌≡◌, ◌↔◌, ◌&&◌, not, ℕ, false, List, [], None}
 use Rattle.vol_state.specs.Maps.{Maps, Stands}
 use Rattle.vol_state.specs.State.{State}
 use Rattle.vol_state.specs.Valid.{IsVolume}
+use Rattle.win_order.specs.declared.update.Update.{Update}
+use Rattle.world_model.specs.Events.{sends_vector}
+use Rattle.world_model.specs.Rounds.{IsPage, IsRound, Round}
+use Rattle.world_model.specs.World.{World}
+use Rattle.script_engine.specs.Pulling.{IsAsked, IsByVersion, Pulls}
 use Rattle.script_engine.specs.Trees.{IsTreeOf, Row}
 
 -- maps have one tree
@@ -12,3 +17,16 @@ TreesAreOne = (m : Maps) (a b : List Row) → IsTreeOf m a → IsTreeOf m b → 
 -- the maps that a volume stands for have a tree
 abbrev pub VolumesHaveTrees : Type 0
 VolumesHaveTrees = (v : State) (m : Maps) → IsVolume v → Stands v m → (rows : List Row) × IsTreeOf m rows
+
+-- a pull that isn't refused is a whole round of the world
+abbrev pub PullsAreRounds : Type 0
+PullsAreRounds = (w : World) (puller server taken : ℕ) (new : World) → Pulls w puller server taken None new → IsRound w puller server new
+
+-- a round over the server's vector, before its first page
+abbrev pub begun_round : World → ℕ → ℕ → Round
+begun_round w puller server = record { versions = (w.at server).known; rest = λ g. (w.at server).known g && not ((w.at puller).known g); listed = [] }
+
+-- what a pull asks for is, in order, a page of that round that leaves nothing to be asked for, and nothing else is
+abbrev pub PagesAreAsked : Type 0
+PagesAreAsked = (w : World) (puller server : ℕ) (page : List Update) → IsByVersion page
+    → IsPage (sends_vector w server) (begun_round w puller server) page (λ g. false) ↔ IsAsked w puller server page

@@ -1,5 +1,5 @@
 // Laws of the definitions.
-ghost use Rattle.script_engine.specs.Laws.{TreesAreOne, VolumesHaveTrees};
+ghost use Rattle.script_engine.specs.Laws.{PagesAreAsked, PullsAreRounds, TreesAreOne, VolumesHaveTrees};
 ghost use Rattle.script_engine.specs.Scripts.{BeginningsGoOn, BeginningsKeepScenesSound, EqualRecords, EveryLinePrints, EveryScriptPrints, FreshScenesAreSound, LinesKeepScenesSound, LinesPrintOneText, OneText, RecordedIsCovered, RunsKeepScenesSound, RunsPrintOneText, StaysCovered};
 
 /// What is reached from the root of a volume, in order of the paths, is one list.
@@ -10,6 +10,13 @@ pub fn trees_are_one()
 /// Each volume has such a list.
 pub fn volumes_have_trees()
     ensures { VolumesHaveTrees }
+{}
+
+/// A pull that isn't refused is a whole round of the world, and what it asks for is just the one
+/// page in order that leaves nothing to be asked for.
+pub fn pulls_are_rounds()
+    ensures rounds { PullsAreRounds }
+    ensures pages { PagesAreAsked }
 {}
 
 /// Before the first line a scene is sound: it keeps the world's invariant, each volume is one of

@@ -23,6 +23,7 @@ kept_fresh own = record {
       apart = λ a b parent name i j u v. absurd i;
     };
     uids = λ a b i j e. absurd i;
+    summed = λ o i. absurd i;
   };
   fid = refl;
   usn = refl;

@@ -1,5 +1,5 @@
 -- Each command leaves a volume.
-use Rattle.std.proofs.Common.{◌≡◌, ◌≢◌, ◌<◌, ◌≤◌, ◌||◌, ◌&&◌, not, ◌⊎◌, inl, inr, ℕ, Bool, true, false, cond, eqb, leb, List, [], ◌∷◌, length, Option, Some, None, refl, sym, ap, ◌∙◌, map, arith}
+use Rattle.std.proofs.Common.{◌≡◌, ◌≢◌, ◌<◌, ◌≤◌, ◌||◌, ◌&&◌, not, ◌⊎◌, inl, inr, ℕ, Bool, true, false, cond, eqb, leb, List, [], ◌∷◌, length, Option, Some, None, refl, sym, ap, ◌∙◌, subst, map, arith}
 use Rattle.std.proofs.lemmas.Bool.Decides.{nat_tests}
 use Rattle.std.proofs.lemmas.Bool.{false≢true}
 use Rattle.std.proofs.lemmas.Slice.Eq.{bytes_eq-Decides}
@@ -19,7 +19,8 @@ use Rattle.vol_state.specs.State.{State, uid_of, object_of}
 use Rattle.vol_state.specs.Numbers.{own_version, usn_in, has_usn, has_fid, has_numbers}
 use Rattle.vol_state.specs.Effects.{edit, without, added, edited, gone, effect, new_object, at_place, with_bytes, stamp}
 use Rattle.vol_state.specs.Conditions.{is_placed, is_in_limbo, is_file, is_open, is_open_object, is_within, is_free, can_move, can_stand, can_make, root_uid, is_allowed}
-use Rattle.vol_state.specs.Valid.{IsVolume}
+use Rattle.vol_state.specs.Valid.{IsSummed, IsVolume}
+use Rattle.vol_state.specs.Laws.{ObjectsAreSummed}
 use Rattle.vol_state.proofs.Climbing.{by_cases}
 use Rattle.vol_state.proofs.Finding.{at_in}
 use Rattle.vol_state.proofs.Trees.{in_push, in_edit, in_without, tree_push, tree_without, tree_contents, tree_park, tree_stand}
@@ -30,8 +31,9 @@ use Rattle.vol_state.proofs.Tops.{greatest_in, usn_above, fid_above, objects_fid
 volume_added : (op : ℕ) (local : Bool) (o : Object) (v : State) → IsVolume v → o.fid ≡ v.next_fid → has_fid v ≡ true → IsHome v.objects o.place
     → ((b : Object) (parent : ℕ) (name : List ℕ) → In b v.objects → is_child parent name o ≡ true → is_child parent name b ≡ true → ⊥)
     → ((b : Object) → In b v.objects → uid_of v.own b ≢ uid_of v.own o)
+    → IsSummed o
     → IsVolume (added op local o v)
-volume_added op local o v h fid has home alone fresh =
+volume_added op local o v h fid has home alone fresh summed =
     let above = (fid_above v has).0 in
     let most = objects_fid v in
     let positive : 0 < o.fid = omega arith in
@@ -45,12 +47,13 @@ volume_added op local o v h fid has home alone fresh =
           (λ k. by_cases (in_push b o v.objects j)
           (λ l. absurd (fresh b l (sym e ∙ ap (uid_of v.own) k)))
           (λ l. k ∙ sym l));
+      summed = λ a i. by_cases (in_push a o v.objects i) (λ k. h.summed a k) (λ k. subst IsSummed (sym k) summed);
     }
 
 volume_edited : (op : ℕ) (local : Bool) (fid : ℕ) (f : Object → Object) (o : Object) (v : State) → IsVolume v → object_at v.objects fid ≡ Some o
     → ((x : Object) → (stamp local v.next_usn (f x)).fid ≡ x.fid) → ((x : Object) → uid_of v.own (stamp local v.next_usn (f x)) ≡ uid_of v.own x)
-    → IsTree (edit fid (λ o. stamp local v.next_usn (f o)) v.objects) → IsVolume (edited op local fid f v)
-volume_edited op local fid f o v h at keeps_fid keeps_uid tree =
+    → IsTree (edit fid (λ o. stamp local v.next_usn (f o)) v.objects) → (IsSummed o → IsSummed (stamp local v.next_usn (f o))) → IsVolume (edited op local fid f v)
+volume_edited op local fid f o v h at keeps_fid keeps_uid tree keeps_sum =
     let g : Object → Object = λ o. stamp local v.next_usn (f o) in
     let objects = edit fid g v.objects in
     let i = at_in fid o v.objects at in
@@ -64,6 +67,7 @@ volume_edited op local fid f o v h at keeps_fid keeps_uid tree =
           (λ w. by_cases (inside b k)
           (λ q. absurd (w.1 (ap (λ y. y.fid) (h.uids a o w.0 i.0 (e ∙ ap (uid_of v.own) q ∙ keeps_uid o)) ∙ i.1)))
           (λ z. h.uids a b w.0 z.0 e));
+      summed = λ a j. by_cases (inside a j) (λ p. subst IsSummed (sym p) (keeps_sum (h.summed o i.0))) (λ w. h.summed a w.0);
     }
 
 volume_gone : (op : ℕ) (local : Bool) (fid : ℕ) (v : State) → IsVolume v → has_children v.objects fid ≡ false → IsVolume (gone op local fid v)
@@ -72,6 +76,7 @@ volume_gone op local fid v h bare =
     record {
       tree = tree_without fid v.objects bare h.tree;
       uids = λ a b i j. h.uids a b (inside a i).0 (inside b j).0;
+      summed = λ a i. h.summed a (inside a i).0;
     }
 
 -- ---- tests
@@ -174,22 +179,34 @@ new_fresh v has b i e =
     omega arith
 
 placed_new : (op : ℕ) (parent : ℕ) (name bytes : List ℕ) (kind : Kind) (v : State) → IsVolume v → has_usn v ≡ true → has_fid v ≡ true → is_free v.objects parent name ≡ true
+    → (is_directory kind ≡ true → bytes ≡ [])
     → IsVolume (added op true (new_object v (Some (parent, name)) kind bytes None true) v)
-placed_new op parent name bytes kind v h usn fid m =
+placed_new op parent name bytes kind v h usn fid m bare =
     let (opened, free) = both (is_open v.objects parent) (not (is_some (child v.objects parent name))) m in
     let (directory, _) = both (is_directory_at v.objects parent) (is_reached v.objects parent) opened in
     volume_added op true (new_object v (Some (parent, name)) kind bytes None true) v h refl fid directory
     (λ b at other i u k. false≢true (sym (find_none (is_child parent name) v.objects b (not_so (is_some (child v.objects parent name)) free) i) ∙ child_meets parent name at other b u k))
-    (new_fresh v usn)
+    (new_fresh v usn) (record { sum = refl; bare = bare })
+
+-- nothing is as long as nothing
+empty_of : (bytes : List ℕ) → leb (length bytes) 0 ≡ true → bytes ≡ []
+empty_of [] e = refl
+empty_of (b ∷ bytes) e = absurd (grind (arith, nat_tests, e))
+
+-- a directory is made without contents
+made_bare : (d : Bool) (bytes : List ℕ) → (not d || leb (length bytes) 0) ≡ true → d ≡ true → bytes ≡ []
+made_bare true bytes e is = empty_of bytes e
+made_bare false bytes e is = absurd (cc)
 
 made_new : (uid : Uid) (kind : Kind) (bytes : List ℕ) (v : State) → IsVolume v → has_fid v ≡ true → can_make uid kind bytes v ≡ true
     → IsVolume (added 8 false (new_object v None kind bytes (Some uid) false) v)
 made_new uid kind bytes v h fid m =
     let (_, rest) = both (not (same_uid uid root_uid)) (not (is_some (object_of v uid)) && (not (is_directory kind) || leb (length bytes) 0)) m in
-    let (free, _) = both (not (is_some (object_of v uid))) (not (is_directory kind) || leb (length bytes) 0) rest in
+    let (free, bare) = both (not (is_some (object_of v uid))) (not (is_directory kind) || leb (length bytes) 0) rest in
     volume_added 8 false (new_object v None kind bytes (Some uid) false) v h refl fid tt
     (λ b parent name i u k. false≢true u)
     (λ b i e. false≢true (sym (find_none (λ o. same_uid (uid_of v.own o) uid) v.objects b (not_so (is_some (object_of v uid)) free) i) ∙ ap (λ u. same_uid u uid) e ∙ is_same uid))
+    (record { sum = refl; bare = made_bare (is_directory kind) bytes bare })
 
 -- ---- changed objects
 
@@ -200,16 +217,24 @@ standing op local fid parent name o v h at directory off free =
     volume_edited op local fid (at_place (Some (parent, name))) o v h at (λ x. refl) (λ x. refl)
     (tree_stand (λ x. stamp local v.next_usn (at_place (Some (parent, name)) x)) fid v.objects o parent name (λ x. refl) (λ x. refl) (λ x. refl) at directory off
     (λ b at' other i u k. free_of v h fid parent name free b i (child_meets parent name at' other b u k)) h.tree)
+    (λ s. record { sum = s.sum; bare = s.bare })
 
-contents : (op : ℕ) (local : Bool) (fid : ℕ) (bytes : List ℕ) (o : Object) (v : State) → IsVolume v → object_at v.objects fid ≡ Some o → IsVolume (edited op local fid (with_bytes bytes) v)
-contents op local fid bytes o v h at =
+-- a file is no directory
+no_directory : (o : Object) → is_file o ≡ true → is_directory o.kind ≡ true → ⊥
+no_directory o file is = false≢true (sym (not_so (is_directory o.kind) file) ∙ is)
+
+contents : (op : ℕ) (local : Bool) (fid : ℕ) (bytes : List ℕ) (o : Object) (v : State) → IsVolume v → object_at v.objects fid ≡ Some o → is_file o ≡ true
+    → IsVolume (edited op local fid (with_bytes bytes) v)
+contents op local fid bytes o v h at file =
     volume_edited op local fid (with_bytes bytes) o v h at (λ x. refl) (λ x. refl)
     (tree_contents (λ x. stamp local v.next_usn (with_bytes bytes x)) fid v.objects o (λ x. refl) (λ x. refl) (λ x. refl) at h.tree)
+    (λ s. record { sum = refl; bare = λ is. absurd (no_directory o file is) })
 
 parked : (fid : ℕ) (o : Object) (v : State) → IsVolume v → object_at v.objects fid ≡ Some o → IsVolume (edited 6 false fid (at_place None) v)
 parked fid o v h at =
     volume_edited 6 false fid (at_place None) o v h at (λ x. refl) (λ x. refl)
     (tree_park (λ x. stamp false v.next_usn (at_place None x)) fid v.objects o (λ x. refl) (λ x. refl) (λ x. refl) at h.tree)
+    (λ s. record { sum = s.sum; bare = s.bare })
 
 -- ---- all commands
 
@@ -217,13 +242,13 @@ parked fid o v h at =
 pub effect_keeps : (cmd : VolCmd) (v : State) → IsVolume v → has_numbers cmd v ≡ true → is_allowed cmd v ≡ true → IsVolume (effect cmd v)
 effect_keeps (PutNew parent name bytes) v h n m =
     let (usn, fid) = both (has_usn v) (has_fid v) n in
-    placed_new 1 parent name bytes File v h usn fid (both (is_within bytes) (is_free v.objects parent name) m).1
+    placed_new 1 parent name bytes File v h usn fid (both (is_within bytes) (is_free v.objects parent name) m).1 (λ e. absurd (false≢true e))
 effect_keeps (PutOver fid bytes) v h n m =
     let (file, _) = both (some_is is_file (object_at v.objects fid)) (is_reached v.objects fid) (both (is_within bytes) (some_is is_file (object_at v.objects fid) && is_reached v.objects fid) m).1 in
-    let s = some_of is_file (object_at v.objects fid) file in contents 2 true fid bytes s.0 v h s.1
+    let s = some_of is_file (object_at v.objects fid) file in contents 2 true fid bytes s.0 v h s.1 s.2
 effect_keeps (Mkdir parent name) v h n m =
     let (usn, fid) = both (has_usn v) (has_fid v) n in
-    placed_new 3 parent name [] Directory v h usn fid m
+    placed_new 3 parent name [] Directory v h usn fid m (λ e. refl)
 effect_keeps (Move fid parent name) v h n m =
     let (opened, stands) = both (is_open_object v.objects fid) (can_move v.objects fid parent name) m in
     let s = some_there (object_at v.objects fid) (both (is_some (object_at v.objects fid)) (is_reached v.objects fid) opened).0 in
@@ -236,10 +261,15 @@ effect_keeps (Park fid) v h n m = let s = some_of is_placed (object_at v.objects
 effect_keeps (Erase fid) v h n m =
     volume_gone 7 false fid v h (not_so (has_children v.objects fid) (both (some_is is_in_limbo (object_at v.objects fid)) (not (has_children v.objects fid)) m).1)
 effect_keeps (Make uid kind bytes) v h n m = made_new uid kind bytes v h (both (has_usn v) (has_fid v) n).1 m
-effect_keeps (Rewrite fid bytes) v h n m = let s = some_of is_file (object_at v.objects fid) m in contents 9 false fid bytes s.0 v h s.1
+effect_keeps (Rewrite fid bytes) v h n m = let s = some_of is_file (object_at v.objects fid) m in contents 9 false fid bytes s.0 v h s.1 s.2
 effect_keeps (Place fid parent name) v h n m =
     let (limbo, stands) = both (some_is is_in_limbo (object_at v.objects fid)) (can_stand v.objects fid parent name) m in
     let s = some_of is_in_limbo (object_at v.objects fid) limbo in
     let (directory, rest) = both (is_directory_at v.objects parent) (not (is_beneath v.objects fid parent) && not (is_some (child v.objects parent name))) stands in
     let (off, free) = both (not (is_beneath v.objects fid parent)) (not (is_some (child v.objects parent name))) rest in
     standing 10 false fid parent name s.0 v h s.1 directory (not_so (is_beneath v.objects fid parent) off) (nobody_or (λ o. eqb o.fid fid) (child v.objects parent name) (not_so (is_some (child v.objects parent name)) free))
+
+-- ---- what holds of each object
+
+pub objects_summed : ObjectsAreSummed
+objects_summed v h fid o at = let s = h.summed o (at_in fid o v.objects at).0 in (s.sum, λ d. s.bare (ap is_directory d))

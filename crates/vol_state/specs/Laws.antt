@@ -1,12 +1,21 @@
--- Facts of volumes that began fresh, which every step keeps.
-use Rattle.std.specs.Prelude.{⊤, ◌≡◌, ◌<◌}
+-- Facts of every volume, and of those that began fresh, which every step keeps.
+use Rattle.std.specs.Prelude.{⊤, ◌≡◌, ◌<◌, ℕ, [], Some}
+use Rattle.frs_base.specs.declared.kind.Kind.TheVariants.{Directory}
 use Rattle.frs_base.specs.declared.version.Uid.{Uid}
 use Rattle.vol_state.specs.declared.command.VolCmd.{VolCmd}
 use Rattle.vol_state.specs.declared.command.VolCmd.TheVariants.{PutNew, PutOver, Mkdir, Move, Remove, Park, Erase, Make, Rewrite, Place}
+use Rattle.vol_state.specs.declared.object.Object.{Object}
+use Rattle.vol_state.specs.Places.{object_at}
 use Rattle.vol_state.specs.State.{State}
+use Rattle.vol_state.specs.Sums.{content_sum}
+use Rattle.vol_state.specs.Valid.{IsVolume}
 use Rattle.vol_state.specs.Numbers.{greatest_fid, greatest_usn}
 use Rattle.vol_state.specs.Journal.{IsNumbered}
 use Rattle.vol_state.specs.Conditions.{step}
+
+-- each object has the sum of its contents, and a directory has none
+abbrev pub ObjectsAreSummed : Type 0
+ObjectsAreSummed = (v : State) → IsVolume v → (fid : ℕ) (o : Object) → object_at v.objects fid ≡ Some o → (o.sum ≡ content_sum o.kind o.bytes) × (o.kind ≡ Directory → o.bytes ≡ [])
 
 -- USNs that run from 9 without a gap go on so
 abbrev pub KeepsNumbering : Type 0

@@ -1,5 +1,6 @@
 pub mod Places
 pub mod Paths
+pub mod Refusals
 pub mod Tree
 pub mod State
 pub mod Numbers

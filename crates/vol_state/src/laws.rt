@@ -1,9 +1,14 @@
 // Laws of the definitions.
-ghost use Rattle.vol_state.specs.Laws.{KeepsNumbering, LeavesNumbersFree};
+ghost use Rattle.vol_state.specs.Laws.{KeepsNumbering, LeavesNumbersFree, ObjectsAreSummed};
 ghost use Rattle.vol_state.specs.Maps.{BeginsStanding, StandsOn};
 ghost use Rattle.vol_state.specs.Pending.{PendingIsLast};
 ghost use Rattle.vol_state.specs.Tables.{TablesAreTests, TestsAreTables};
 ghost use Rattle.vol_state.specs.Ways.{ListsResolve, ResolvedMay, ResolvesToOne};
+
+/// Each object of a volume has the sum of its contents, and a directory has no contents.
+pub fn objects_have_the_sums_of_their_contents()
+    ensures { ObjectsAreSummed }
+{}
 
 /// USNs that run from 9 without a gap go on so, whatever the command: a fact of volumes that began
 /// fresh, which no type keeps.

@@ -28,8 +28,9 @@ mod volume;
 pub use command::{Ready, VolCmd};
 pub use laws::{
     fresh_lists_stand_for_maps, lists_resolve_as_maps, lists_stand_for_maps,
-    operations_resolve_to_one, pending_records_are_last, resolved_commands_may_be_done,
-    steps_keep_the_numbering, steps_leave_numbers_free, tables_are_tests, tests_are_tables,
+    objects_have_the_sums_of_their_contents, operations_resolve_to_one, pending_records_are_last,
+    resolved_commands_may_be_done, steps_keep_the_numbering, steps_leave_numbers_free,
+    tables_are_tests, tests_are_tables,
 };
 pub use object::Object;
 pub use operation::{LocalOp, Refused};

@@ -1,4 +1,7 @@
 // What may be done by path, and why it is refused.
+ghost use Rattle.std.specs.Prelude.{Some};
+ghost use Rattle.vol_state.specs.Refusals.{refusal_text};
+
 use frs_base::{Bytes, List, Name};
 use std::error::Error;
 use std::fmt;
@@ -35,6 +38,8 @@ pub enum Refused {
 }
 
 impl fmt::Display for Refused {
+    ghost output = { λ why. Some (refusal_text why) };
+
     fn fmt<W: fmt::Write>(&self, f: &mut fmt::Formatter<W>) -> fmt::Result {
         match self {
             Refused::TooLarge { length } => write!(f, "{length} bytes are too many for a file"),

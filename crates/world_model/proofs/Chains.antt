@@ -130,6 +130,10 @@ numbers_written m c f o e h root fid new = record {
   first = λ g x a t. at_case (x.born ≤ x.last_local) m.at f o g (Some x) a (λ i xo. (new x xo).2 t) (λ n xo. h.first g x xo t);
   entries = λ n d a. at_case (n < m.next_usn + 1) m.entry m.next_usn (Some e) n (Some d) a (λ i s. omega (arith, i)) (λ w s. let l = h.entries n d s in omega (arith, l));
   consumed_is = let l = h.consumed_is in omega (arith, l);
+  whole = λ n low high. elim (cases_eq n m.next_usn) [
+    | inl s ↦ (e, subst (λ i. with_at m.entry m.next_usn (Some e) i ≡ Some e) (sym s) (at_same m.entry m.next_usn (Some e)))
+    | inr k ↦ let (r, at) = h.whole n low (omega (arith, high, k)) in (r, at_other m.entry m.next_usn (Some e) n k ∙ at)
+  ];
 }
 
 -- ---- the journal, after a local operation that leaves the object, and after one that takes it away

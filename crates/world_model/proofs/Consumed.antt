@@ -140,7 +140,7 @@ weaker_journal own m c j = record {
 }
 
 weaker_numbers : (m : Maps) (c : ℕ) → NumbersAreFresh m c → c < m.next_usn → NumbersAreFresh m (c + 1)
-weaker_numbers m c h l = record { root = h.root; next = h.next; fids = h.fids; named = h.named; born = h.born; last = h.last; first = h.first; entries = h.entries; consumed_is = omega (arith, l) }
+weaker_numbers m c h l = record { root = h.root; next = h.next; fids = h.fids; named = h.named; born = h.born; last = h.last; first = h.first; entries = h.entries; consumed_is = omega (arith, l); whole = h.whole }
 
 -- an update of an object has its kind
 pub kind_kept : (own : ℕ) (m : Maps) (base n moment : ℕ) (held : Option Update) (o : Object) (p : ℕ × List ℕ) → kind_of (object_update own m base n moment held o p) ≡ o.kind

@@ -1,25 +1,22 @@
 -- A member is drained where nothing is due.
-use Rattle.std.proofs.Common.{◌≡◌, ◌≢◌, ◌&&◌, ℕ, Bool, true, false, [], refl, sym, ap, ◌∙◌, subst, arith, inl, inr, Option, Some, None}
-use Rattle.frs_base.specs.declared.kind.MemberKind.{MemberKind}
+use Rattle.std.proofs.Common.{◌≡◌, ℕ, Bool, true, false, refl, sym, ap, ◌∙◌, subst, arith, inl, inr, Option}
 use Rattle.frs_base.specs.declared.sum.Sum.{Sum}
 use Rattle.frs_base.specs.declared.version.Uid.{Uid}
 use Rattle.win_order.specs.declared.update.Update.{Update}
-use Rattle.vol_state.specs.declared.object.Object.{Object}
 use Rattle.vol_state.specs.State.{uid_of}
 use Rattle.vol_state.specs.Maps.{Maps}
-use Rattle.vol_state.specs.Tables.{IsAt}
 use Rattle.name_rules.specs.Recorded.{parent_uid}
-use Rattle.name_rules.specs.Tree.{IsShown, is_file}
-use Rattle.name_rules.specs.Next.{IsInPlace, NothingToErase, NothingToMake, NothingToPark, NothingToPlace, NothingToRewrite, NothingToUnstage}
+use Rattle.name_rules.specs.Tree.{IsShown}
+use Rattle.name_rules.specs.Next.{NothingToErase, NothingToMake, NothingToPark, NothingToPlace, NothingToRewrite, NothingToUnstage}
 use Rattle.name_rules.proofs.Shown.{shown_record}
-use Rattle.world_model.specs.World.{World, IsRecordOf, fresh_world}
-use Rattle.world_model.specs.Due.{IsObject, Sees, View, due}
-use Rattle.world_model.specs.Laws.{DrainedWhereNothingIsDue, FreshMembersAreDrained, SeesAt}
+use Rattle.world_model.specs.World.{IsRecordOf, fresh_world}
+use Rattle.world_model.specs.Due.{Sees, View, due}
+use Rattle.world_model.specs.Laws.{DrainedWhereNothingIsDue, FreshMembersAreDrained}
 use Rattle.world_model.proofs.Facts.{none_some, some_is, true_false}
 use Rattle.world_model.proofs.Deciding.{IsListed, records_listed}
-use Rattle.world_model.proofs.Due.{IsSite, site, tells_true, told}
+use Rattle.world_model.proofs.Due.{site, tells_true, told}
 use Rattle.world_model.proofs.Views.{sum_decided, views_there}
-use Rattle.world_model.specs.Invariant.{Invariant, PlacesAreATree}
+use Rattle.world_model.specs.Invariant.{PlacesAreATree}
 
 -- ---- where nothing is due
 

@@ -1,5 +1,5 @@
 -- The small worlds, computed.
-use Rattle.std.proofs.Common.{◌≡◌, ◌≢◌, ◌⊎◌, zero, suc, true, false, [], ◌∷◌, drop, refl, sym, ap, ◌∙◌, subst, arith, inl, inr, Some, None}
+use Rattle.std.proofs.Common.{◌≡◌, ◌≢◌, ◌⊎◌, ℕ, List, zero, suc, true, false, [], ◌∷◌, drop, refl, sym, ap, ◌∙◌, subst, arith, inl, inr, Some, None}
 use Rattle.frs_base.specs.Options.{In}
 use Rattle.win_order.specs.Order.{Beats, key_lt, key_of}
 use Rattle.win_order.specs.declared.update.Update.{Update}
@@ -8,16 +8,22 @@ use Rattle.vol_state.specs.declared.command.VolCmd.TheVariants.{Make, Place, Put
 use Rattle.record_db.specs.Records.{Covered, IsRecord, IsWinner, Versions, plus}
 use Rattle.name_rules.specs.Tree.{IsShown}
 use Rattle.world_model.specs.World.{World, IsRecordOf, with_member}
-use Rattle.world_model.specs.Events.{adopted_by, consumes, finished_by, operated, sends_update, sends_vector, unstaged_at}
-use Rattle.world_model.specs.Examples.{DueRows, IsOnly, ParentCycle, Superseded, Tie, cycle, begin, changed_vector, file, first_vector, installed_vector, last_vector, moved_p, moved_q, superseded, tie, uid_p, version, x}
+use Rattle.world_model.specs.Events.{Adopt, Consume, Finish, Install, Local, SendUpdate, Step, Unstage, adopted_by, consumes, finished_by, operated, sends_update, sends_vector, unstaged_at}
+use Rattle.world_model.specs.Examples.{DueRows, Installs, IsOnly, ParentCycle, Superseded, Tie, cycle, begin, changed_vector, file, first_vector, installed_vector, last_vector, moved_p, moved_q, superseded, tie, uid_p, version, x}
+use Rattle.world_model.specs.Laws.{IsAnswerAt}
 use Rattle.world_model.specs.Runs.{Run}
 use Rattle.vol_state.specs.Conditions.{root_uid}
 use Rattle.vol_state.specs.Maps.{fresh_maps}
-use Rattle.vol_state.specs.Tables.{IsBeneath, IsFree}
-use Rattle.name_rules.specs.Next.{IsPending, IsQuiet}
+use Rattle.vol_state.specs.declared.object.Object.{Object}
+use Rattle.vol_state.specs.State.{uid_of}
+use Rattle.vol_state.specs.Sums.{content_sum}
+use Rattle.vol_state.specs.Tables.{IsAt, IsBeneath, IsFree}
+use Rattle.name_rules.specs.Next.{IsCandidate, IsPending, IsQuiet, Next as InstallNext, Step as InstallStep, place_lt, place_of}
+use Rattle.name_rules.specs.Recorded.{parent_uid}
+use Rattle.name_rules.proofs.Shown.{shown_record}
 use Rattle.world_model.proofs.Changing.{at_other}
 use Rattle.world_model.proofs.Computed.{held_by, none_shown, quiet_written, record_by, tops}
-use Rattle.world_model.proofs.Facts.{at_case, none_some, true_false}
+use Rattle.world_model.proofs.Facts.{at_case, none_some, some_is, true_false}
 
 -- ---- superseded
 
@@ -91,7 +97,7 @@ superseded_is = (w8, s1, second_wins _ refl, refl, refl, refl)
     s1 : Run begin superseded w8
     s1 = (w1, ((omega arith, (inl refl, (0, refl), λ g o p a e f m. absurd (none_some o a))), refl), s2)
 
--- ---- a tie
+-- ---- two changes of one file
 
 abbrev third : Update
 third = file (2 ∷ []) (version 2 11) 3 200
@@ -194,6 +200,57 @@ first_shown known k = (1, (record { among = first_is known k; present = refl; gr
 empty : {X : Type 0} {P : Type 0} (o : X) → None ≡ Some o → P
 empty o e = absurd (none_some o e)
 
+-- ---- 2 pulls the first change
+
+pulls_1 : Step begin 1 (Local (PutNew 0 x [])) t1
+pulls_1 = ((omega arith, (inl refl, (0, refl), λ g o q a e f m. empty o a)), refl)
+
+pulls_2 : Step t1 1 (Consume 100) t2
+pulls_2 = (omega arith, Some first, (_, None, refl, (λ v c e. c.0), refl), refl)
+
+pulls_4 : Step t3 1 (SendUpdate first) t4
+pulls_4 = (inl (_, inl refl, first_is _ refl), refl)
+
+pulls_5 : Step t4 2 (Adopt first) t5
+pulls_5 = ((1, inl refl), (None, (λ v c e. true_false false c.1 refl), tt), refl)
+
+pulls_6 : Step t5 2 (Finish first_vector) t6
+pulls_6 = ((1, inl refl), held_by t5 2 first (first_is _ refl) refl _, refl)
+
+-- ---- and installs it
+
+makes : Step t6 2 (Install (Make uid_p File [])) t7
+makes = ((λ n r past at. empty r at), (first, first_shown _ refl, refl, refl, λ i. (refl, refl)), (apart, (λ f o at. empty o at), λ i. refl), refl)
+  where
+    apart : uid_p ≡ root_uid → ⊥
+    apart e = let bad : 9 ≡ 1 = ap (λ u. u.version) e in absurd (omega (arith, bad))
+
+places : Step t7 2 (Install (Place 1 0 x)) t8
+places = (quiet, (_, first, refl, first_shown _ refl, refl, refl, refl), (_, refl, refl, inl refl, beneath, free), refl)
+  where
+    -- in a volume with the one object, in limbo
+    beneath : IsBeneath (t7.at 2).volume 1 0 → ⊥
+    beneath (zero, e) = absurd (omega (arith, e))
+    beneath (suc n, inl e) = absurd (omega (arith, e))
+    beneath (suc n, inr (o, q, at, place, h)) = empty o at
+
+    free : IsFree (t7.at 2).volume 1 0 x
+    free g o q at place e m = at_case (g ≡ 1) (t6.at 2).volume.at 1 _ g (Some o) at (λ i s. i) (λ i s. empty o s)
+
+    quiet : IsQuiet 9 (t7.at 2).volume
+    quiet = quiet_written 9 fresh_maps 1 ((t7.at 2).volume.at 1) uid_p 8 (λ n r past at. empty r at)
+
+unstages : Step t8 2 (Unstage uid_p) t9
+unstages = (1, _, refl, refl, refl, refl)
+
+skips_9 : Step t9 2 (Consume 150) t10
+skips_9 = (omega arith, None, (_, Some first, refl, (first_is _ refl, refl), refl), refl)
+
+skips_10 : Step t10 2 (Consume 150) t11
+skips_10 = (omega arith, None, (_, Some first, refl, (first_is _ refl, refl), refl), refl)
+
+-- ---- a tie
+
 pub tie_is : Tie
 tie_is = (t23, s0, third_wins _ refl, third_wins _ refl, refl, refl)
   where
@@ -225,41 +282,74 @@ tie_is = (t23, s0, third_wins _ refl, third_wins _ refl, refl, refl)
     s11 : Run t11 (drop 11 tie) t23
     s11 = (t12, refl, (t13, ((2, inl refl), held_by t12 1 first (first_is _ refl) refl _, refl), s13))
 
-    s9 : Run t9 (drop 9 tie) t23
-    s9 = (t10, (omega arith, None, (_, Some first, refl, (first_is _ refl, refl), refl), refl), (t11, (omega arith, None, (_, Some first, refl, (first_is _ refl, refl), refl), refl), s11))
-
-    s8 : Run t8 (drop 8 tie) t23
-    s8 = (t9, (1, _, refl, refl, refl, refl), s9)
-
-    -- in a volume with the one object, in limbo
-    beneath : IsBeneath (t7.at 2).volume 1 0 → ⊥
-    beneath (zero, e) = absurd (omega (arith, e))
-    beneath (suc n, inl e) = absurd (omega (arith, e))
-    beneath (suc n, inr (o, q, at, place, h)) = empty o at
-
-    free : IsFree (t7.at 2).volume 1 0 x
-    free g o q at place e m = at_case (g ≡ 1) (t6.at 2).volume.at 1 _ g (Some o) at (λ i s. i) (λ i s. empty o s)
-
-    quiet : IsQuiet 9 (t7.at 2).volume
-    quiet = quiet_written 9 fresh_maps 1 ((t7.at 2).volume.at 1) uid_p 8 (λ n r past at. empty r at)
-
-    s7 : Run t7 (drop 7 tie) t23
-    s7 = (t8, (quiet, (_, first, refl, first_shown _ refl, refl, refl, refl), (_, refl, refl, inl refl, beneath, free), refl), s8)
-
-    apart : uid_p ≡ root_uid → ⊥
-    apart e = let bad : 9 ≡ 1 = ap (λ u. u.version) e in absurd (omega (arith, bad))
-
     s6 : Run t6 (drop 6 tie) t23
-    s6 = (t7, ((λ n r past at. empty r at), (first, first_shown _ refl, refl, refl, λ i. (refl, refl)), (apart, (λ f o at. empty o at), λ i. refl), refl), s7)
-
-    s4 : Run t4 (drop 4 tie) t23
-    s4 = (t5, ((1, inl refl), (None, (λ v c e. true_false false c.1 refl), tt), refl), (t6, ((1, inl refl), held_by t5 2 first (first_is _ refl) refl _, refl), s6))
-
-    s2 : Run t2 (drop 2 tie) t23
-    s2 = (t3, refl, (t4, (inl (_, inl refl, first_is _ refl), refl), s4))
+    s6 = (t7, makes, (t8, places, (t9, unstages, (t10, skips_9, (t11, skips_10, s11)))))
 
     s0 : Run begin tie t23
-    s0 = (t1, ((omega arith, (inl refl, (0, refl), λ g o q a e f m. empty o a)), refl), (t2, (omega arith, Some first, (_, None, refl, (λ v c e. c.0), refl), refl), s2))
+    s0 = (t1, pulls_1, (t2, pulls_2, (t3, refl, (t4, pulls_4, (t5, pulls_5, (t6, pulls_6, s6))))))
+
+-- ---- what 2 does next
+
+-- it has one record
+only_first : (known : Versions) (u : Update) → IsRecord (first ∷ []) known u → u ≡ first
+only_first known u r = elim r.among.0 [ inl e ↦ e | inr h ↦ absurd h ]
+
+-- the file is to be made
+makes_next : IsAnswerAt t6 2 (InstallNext.Do (InstallStep.Make uid_p))
+makes_next = ((λ n r past at. empty r at), record { candidate = (first, first_shown _ refl, refl, λ f o at. empty o at); first = before })
+  where
+    before : (other : InstallStep) → IsCandidate (IsRecordOf t6 2) 2 (t6.at 2).volume (t6.at 2).staged (t6.at 2).consumed other → place_lt (place_of other) (2, uid_p) ≡ false
+    before (InstallStep.Park uid) (f, o, p, at, id, place, n) = empty o at
+    before (InstallStep.Erase uid) (f, o, u, at, id, q, is, gone) = empty o at
+    before (InstallStep.Make uid) (u, s, id, n) =
+        subst (λ z. place_lt (2, z) (2, uid_p) ≡ false) (sym (ap (λ v. v.uid) (only_first _ u (shown_record (IsRecordOf t6 2) u s))) ∙ id) refl
+    before (InstallStep.Rewrite uid) (f, o, u, at, id, q, is, file, n) = empty o at
+    before (InstallStep.Place uid) (f, o, u, at, id, limbo, s, is) = empty o at
+    before (InstallStep.Unstage uid) (f, o, at, id, is) = empty o at
+    before (InstallStep.Skip usn) c = refl
+
+-- the file in its place
+installed_file : Object
+installed_file = record { fid = 1; place = Some (0, x); kind = File; bytes = []; sum = content_sum File []; born = 9; tag = Some uid_p; last_local = 0 }
+
+-- nothing is left to do
+drained_then : IsAnswerAt t11 2 InstallNext.Drained
+unfolding installed_file
+drained_then = record {
+  quiet = λ n r past at. absurd (none_some r (sym (at_other (t7.at 2).volume.entry 10 _ n (λ e. omega (arith, past, e)) ∙ at_other fresh_maps.entry 9 _ n (λ e. omega (arith, past, e))) ∙ at));
+  park = λ f o p at place. (
+    first,
+    first_shown _ refl,
+    sym (ap (uid_of 2) (is f o at)),
+    ap (λ z. parent_uid 2 (t11.at 2).volume z.0) (there f o p at place),
+    ap (λ z. z.1) (there f o p at place),
+  );
+  erase = λ f o u at q id. ap (λ v. v.present) (only_first _ u q);
+  make = λ u s. (1, installed_file, refl, sym (ap (λ v. v.uid) (only_first _ u (shown_record (IsRecordOf t11 2) u s))));
+  rewrite = λ f o u at q id file. ap (λ z. z.sum) (is f o at) ∙ sym (ap (λ v. v.hash) (only_first _ u q));
+  place = λ f o u at limbo s id. none_some (0, x) (sym limbo ∙ ap (λ z. z.place) (is f o at));
+  unstage = λ uid sum f o staged at id e. none_some sum (subst (λ z. (t11.at 2).staged z ≡ Some sum) (sym id ∙ ap (uid_of 2) (is f o at)) staged);
+  skip = refl;
+}
+  where
+    -- it is the one object
+    is : (f : ℕ) (o : Object) → IsAt (t11.at 2).volume f o → o ≡ installed_file
+    is f o at = at_case (o ≡ installed_file) (t7.at 2).volume.at 1 _ f (Some o) at
+        (λ i s. sym (some_is installed_file o s))
+        (λ n s. empty o (sym (at_other fresh_maps.at 1 _ f n) ∙ s))
+
+    there : (f : ℕ) (o : Object) (p : ℕ × List ℕ) → IsAt (t11.at 2).volume f o → o.place ≡ Some p → (0, x) ≡ p
+    there f o p at place = some_is (0, x) p (sym (ap (λ z. z.place) (is f o at)) ∙ place)
+
+pub installs : Installs
+installs = (
+  (t6, (t1, pulls_1, (t2, pulls_2, (t3, refl, (t4, pulls_4, (t5, pulls_5, (t6, pulls_6, refl)))))), makes_next),
+  (
+    t11,
+    (t1, pulls_1, (t2, pulls_2, (t3, refl, (t4, pulls_4, (t5, pulls_5, (t6, pulls_6, (t7, makes, (t8, places, (t9, unstages, (t10, skips_9, (t11, skips_10, refl))))))))))),
+    drained_then,
+  ),
+)
 
 -- ---- a cycle of parents
 

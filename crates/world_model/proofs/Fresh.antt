@@ -31,6 +31,7 @@ fresh_sound kinds = record {
       first = λ f o a t. absurd (none_some o a);
       entries = λ n r a. absurd (none_some r a);
       consumed_is = omega arith;
+      whole = λ n low high. absurd (omega (arith, low, high));
     };
     journal = record {
       later = λ f o n r a l b t s. absurd (none_some o a);

@@ -1,5 +1,6 @@
 -- What vectors say of records.
-use Rattle.std.proofs.Common.{sym, ◌∙◌}
+use Rattle.std.proofs.Common.{◌≡◌, true, sym, ◌∙◌}
+use Rattle.frs_base.specs.Options.{In}
 use Rattle.win_order.specs.declared.update.Update.{Update}
 use Rattle.record_db.specs.Records.{Covered}
 use Rattle.record_db.proofs.Best.{best_one, best_same, covered_held}
@@ -15,8 +16,12 @@ each_covered_is_held w h d = (λ u c. covered_held w.all (w.at d).known u c, λ 
 pub stays_covered : StaysCovered
 stays_covered w new h later k g = (
   λ s x a t. g.known s.from x (k.vectors s x a t),
-  λ u a. covered_held new.all (new.at u.gvsn.db).known u (g.all u a, g.known u.gvsn.db u.gvsn (h.own u.gvsn (h.recorded u a))),
+  λ s u a c. covered_held new.all (new.at s.from).known u (g.all u c.0, g.known s.from u.gvsn (k.vectors s u.gvsn a c.1)),
+  λ u a. (covered u a, covered_held new.all (new.at u.gvsn.db).known u (g.all u a, covered u a)),
 )
+  where
+    covered : (u : Update) → In u w.all → (new.at u.gvsn.db).known u.gvsn ≡ true
+    covered u a = g.known u.gvsn.db u.gvsn (h.own u.gvsn (h.recorded u a))
 
 pub equal_records : EqualVectorsHaveEqualRecords
 equal_records w new h g i j same u =

@@ -20,6 +20,7 @@ pub mod Flight
 pub mod Lives
 pub mod Steps
 pub mod Counting
+mod Deeds
 pub mod Computed
 pub mod Examples
 pub mod Trees
@@ -29,3 +30,4 @@ pub mod Due
 pub mod Views
 mod Drained
 mod Next
+mod Pending

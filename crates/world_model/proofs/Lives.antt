@@ -7,7 +7,7 @@ use Rattle.world_model.specs.Events.{Event, Step, Local, Consume, SendVector, Se
 use Rattle.world_model.specs.Invariant.{Invariant}
 use Rattle.world_model.specs.Runs.{Grows}
 use Rattle.world_model.specs.Lives.{Act, FlightsAreKept, Happens, IsInFlight, Life, Lives, Does, Restarts, Stops}
-use Rattle.world_model.specs.Laws.{EventsKeepTheInvariant, FlightsCanLand, LivesAreSound}
+use Rattle.world_model.specs.Laws.{EventsKeepTheInvariant, FirstLivesAreKept, FlightsCanLand, LivesAreSound, MembersStopAndStart}
 use Rattle.world_model.proofs.Changing.{at_other}
 use Rattle.world_model.proofs.Facts.{at_case, none_some, some_is}
 use Rattle.world_model.proofs.Flight.{flights_land}
@@ -81,9 +81,22 @@ lives_sound_where keeps l (a ∷ rest) new h k (mid, s, r) =
     let (h2, g2, k2) = lives_sound_where keeps mid rest new h' k' r in
     (h2, grows_trans l.world mid.world new.world g g2, k2)
 
+-- nothing is in flight at first
+pub first_lives_kept : FirstLivesAreKept
+first_lives_kept w d e c = absurd (none_some (Some e) c)
+
 -- ---- landing
 
 pub flights_can_land : FlightsCanLand
-flights_can_land l d e after o =
+flights_can_land l d e after c o =
     let (w, s, same) = flights_land o.before l.world d e o.changed o.made o.grown o.same o.step in
-    (record { world = w; down = with_at l.down d None }, (w, s, refl), same ∙ o.is)
+    (record { world = w; down = with_at l.down d None }, (Some e, c, inr (e, refl, refl, (w, s, refl))), same ∙ o.is)
+
+-- ---- stopping and starting
+
+pub members_stop : MembersStopAndStart
+members_stop l d = record {
+  stops = λ up. (record l { down = with_at l.down d (Some None) }, (up, tt, refl));
+  in_flight = λ e w up s. (record l { down = with_at l.down d (Some (Some e)) }, (up, (w, s), refl));
+  starts = λ flight c. (record l { down = with_at l.down d None }, (flight, c, inl (refl, refl)));
+}

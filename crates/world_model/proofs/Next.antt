@@ -1,9 +1,8 @@
 -- A member with no pending local record is drained, or has one next step.
-use Rattle.std.proofs.Common.{◌≡◌, ◌≢◌, ◌⊎◌, ◌<◌, ◌≤◌, ◌&&◌, ◌||◌, ℕ, zero, suc, Bool, true, false, cond, eqb, ltb, List, [], ◌∷◌, ◌++◌, refl, sym, ap, ◌∙◌, subst, arith, inl, inr, Option, Some, None}
-use Rattle.std.specs.Prelude.{map, nat_lt, ◌==◌, if◌then◌else◌}
+use Rattle.std.proofs.Common.{◌≡◌, ◌≢◌, ◌⊎◌, ◌<◌, ℕ, zero, suc, Bool, true, false, eqb, ltb, List, [], ◌∷◌, ◌++◌, refl, sym, ap, ◌∙◌, subst, arith, inl, inr, Option, Some, None}
+use Rattle.std.specs.Prelude.{map, ◌==◌, if◌then◌else◌}
 use Rattle.std.proofs.lemmas.Bool.Decides.{nat_tests}
 use Rattle.frs_base.specs.Options.{In}
-use Rattle.frs_base.specs.Versions.{uid_lt}
 use Rattle.frs_base.specs.declared.sum.Sum.{Sum}
 use Rattle.frs_base.specs.declared.version.Uid.{Uid}
 use Rattle.win_order.specs.declared.update.Update.{Update}
@@ -18,13 +17,11 @@ use Rattle.name_rules.specs.Recorded.{parent_uid}
 use Rattle.name_rules.specs.Tree.{IsShown, is_file}
 use Rattle.name_rules.specs.Next.{IsCandidate, IsDrained, IsInPlace, IsNext, IsTurn, NothingToErase, NothingToMake, NothingToPark, NothingToPlace, NothingToRewrite, NothingToUnstage, place_lt, place_of, Step as InstallStep}
 use Rattle.name_rules.proofs.Shown.{shown_record}
-use Rattle.world_model.specs.World.{World, IsRecordOf}
-use Rattle.world_model.specs.Due.{IsObject}
+use Rattle.world_model.specs.World.{IsRecordOf}
 use Rattle.world_model.specs.Invariant.{NumbersAreFresh}
 use Rattle.world_model.specs.Laws.{DrainedMembersHaveNone, NextStepsAreOne, QuietMembersGoOn}
 use Rattle.world_model.proofs.Facts.{none_some, some_is, true_false}
 use Rattle.world_model.proofs.Deciding.{Decided, IsListed, and_decided, list_decided, records_listed, true_decided}
-use Rattle.world_model.proofs.Due.{IsSite}
 use Rattle.world_model.proofs.Views.{HasSite, has_site, is_shown, of_record, sum_decided}
 
 -- ---- the order of steps
@@ -335,7 +332,7 @@ module _ (R : Update → Type 0) (l : IsListed R) (own : ℕ) (m : Maps) (staged
 -- ---- the laws
 
 pub quiet_members_go_on : QuietMembersGoOn
-quiet_members_go_on w h d full quiet = elim (least Is (decided R l d m staged consumed sites) (candidates R l d m staged consumed sites m.next_fid)) [
+quiet_members_go_on w h d quiet = elim (least Is (decided R l d m staged consumed sites) (candidates R l d m staged consumed sites m.next_fid)) [
   | inl (s, c, first) ↦ inr (s, next s c first, turn R l d m staged consumed sites s (next s c first))
   | inr none ↦ inl (drained (λ s c. none s (among s c) c))
 ]
@@ -374,7 +371,7 @@ quiet_members_go_on w h d full quiet = elim (least Is (decided R l d m staged co
     all none = elim (true_decided (ltb consumed m.next_usn)) [
       | inl e ↦ (
           let low : consumed < m.next_usn = grind (arith, nat_tests, e) in
-          let (r, at) = full consumed (omega arith) low in
+          let (r, at) = numbers.whole consumed (h.versions.begun d) low in
           absurd (none (InstallStep.Skip consumed) (r, refl, at)))
       | inr n ↦ (let most = numbers.consumed_is in grind (arith, nat_tests, n, most))
     ]

@@ -33,7 +33,7 @@ use Rattle.world_model.proofs.Puts.{adopt_put, consume_none, consume_put, finish
 use Rattle.world_model.proofs.Locally.{local_sound}
 use Rattle.world_model.proofs.Adopted.{adopt_sound, known_sound, same_sound, unstage_sound}
 use Rattle.world_model.proofs.Installed.{no_pending, replica_sound}
-use Rattle.world_model.proofs.Sums.{AreSummed, consume_sums, member_sums, write_sums}
+use Rattle.world_model.proofs.Sums.{AreSummed, consume_sums, local_sums, member_sums, replica_sums}
 use Rattle.world_model.proofs.Consumed.{Held, PutsTo, consume_nothing, consume_some, kind_kept, made_kind}
 
 -- ---- the parts of a member, in the world
@@ -271,7 +271,7 @@ pub step_keeps : EventsKeepTheInvariant
 step_keeps w d (Local op) new h s =
     subst Invariant (sym s.1) (changed w d _ h refl (step_made w d (Local op) _ h.versions h.sent (s.0, refl)) (step_sent w d (Local op) _ h.sent (s.0, refl))
     (local_sound (λ v. In v w.all) (IsRecord w.all (w.at d).known) d (w.at d) op (h.versions.begun d) (λ v r. r.among.0) (λ u a e. subst (λ (i : ℕ). u.uid.version < (w.at i).consumed) e (h.files.made u a)) (h.members d) s.0)
-    (write_sums d op (w.at d).volume (h.sums.objects d)))
+    (local_sums d op (w.at d).volume s.0 (h.sums.objects d)))
 step_keeps w d (Consume moment) new h (early, made, r, is) = subst Invariant (sym is) (record {
   versions = step_made w d (Consume moment) _ h.versions h.sent (early, made, r, refl);
   sent = step_sent w d (Consume moment) _ h.sent (early, made, r, refl);
@@ -305,7 +305,7 @@ step_keeps w d (Finish v) new h s =
 step_keeps w d (Install op) new h s =
     subst Invariant (sym s.3) (changed w d _ h refl (step_made w d (Install op) _ h.versions h.sent (s.0, s.1, s.2, refl)) (step_sent w d (Install op) _ h.sent (s.0, s.1, s.2, refl))
     (replica_sound (λ v. In v w.all) (IsRecord w.all (w.at d).known) d (w.at d) op (λ a b c e q. best_one a b (λ i j k l. h.versions.one_each i j k.0 l.0) c e q) (h.versions.begun d) (λ v r. r.among.0) h.files.kinds s.0 s.1 s.2 (h.members d))
-    (write_sums d op (w.at d).volume (h.sums.objects d)))
+    (replica_sums d op (w.at d).volume s.2 (h.sums.objects d)))
 step_keeps w d (Unstage id) new h (f, o, at, uid, staged, is) =
     subst Invariant (sym is) (changed w d _ h refl (step_made w d (Unstage id) _ h.versions h.sent (f, o, at, uid, staged, refl)) (step_sent w d (Unstage id) _ h.sent (f, o, at, uid, staged, refl))
     (unstage_sound (λ v. In v w.all) (IsRecord w.all (w.at d).known) d (w.at d) id f o (h.members d) at uid staged) (h.sums.objects d))

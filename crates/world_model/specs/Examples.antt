@@ -1,5 +1,5 @@
 -- Three small worlds. Member 1 is primary, all others are plain.
-use Rattle.std.specs.Prelude.{◌≡◌, ◌==◌, ℕ, true, false, if◌then◌else◌, List, [], ◌∷◌, replicate}
+use Rattle.std.specs.Prelude.{◌≡◌, ◌==◌, ℕ, true, false, if◌then◌else◌, List, [], ◌∷◌, ◌++◌, replicate}
 use Rattle.frs_base.specs.Identifiers.{content_set}
 use Rattle.frs_base.specs.declared.kind.Kind.TheVariants.{File}
 use Rattle.frs_base.specs.declared.kind.MemberKind.TheVariants.{Plain, Primary}
@@ -10,11 +10,13 @@ use Rattle.vol_state.specs.declared.command.VolCmd.TheVariants.{Make, Place, Put
 use Rattle.vol_state.specs.Conditions.{root_uid}
 use Rattle.vol_state.specs.Sums.{file_sum, no_sum}
 use Rattle.record_db.specs.Records.{IsRecord, Versions, both, plus}
+use Rattle.name_rules.specs.Next.{Next as InstallNext, Step as InstallStep}
 use Rattle.name_rules.specs.Tree.{IsShown}
 use Rattle.world_model.specs.Due.{View, due}
 use Rattle.world_model.specs.World.{World, IsRecordOf, fresh_world}
 use Rattle.world_model.specs.Events.{Event, Local, Consume, SendVector, SendUpdate, Adopt, Finish, Install, Unstage}
 use Rattle.world_model.specs.Runs.{Happening, Run}
+use Rattle.world_model.specs.Laws.{IsAnswerAt}
 
 -- ---- words for the rows
 
@@ -92,21 +94,33 @@ changed_vector = plus installed_vector (version 2 11)
 abbrev pub last_vector : Versions
 last_vector = both (plus (plus (both first_vector installed_vector) (version 1 10)) (version 2 11)) changed_vector
 
--- 1 puts x at 100, 2 pulls it and installs it, 1 pulls from 2; both put over it at 200, and each pulls from the other
-abbrev pub tie : List Happening
-tie =
+-- 1 puts x at 100, and 2 pulls it
+abbrev pub pulled : List Happening
+pulled =
     at_one (Local (PutNew 0 x []))
     ∷ at_one (Consume 100)
     ∷ at_one SendVector
     ∷ at_one (SendUpdate (file [] (version 1 9) 2 100))
     ∷ at_two (Adopt (file [] (version 1 9) 2 100))
     ∷ at_two (Finish first_vector)
-    ∷ at_two (Install (Make (record { db = 1; version = 9 }) File []))
+    ∷ []
+
+-- 2 installs it
+abbrev pub installed : List Happening
+installed =
+    at_two (Install (Make (record { db = 1; version = 9 }) File []))
     ∷ at_two (Install (Place 1 0 x))
     ∷ at_two (Unstage (record { db = 1; version = 9 }))
     ∷ at_two (Consume 150)
     ∷ at_two (Consume 150)
-    ∷ at_two SendVector
+    ∷ []
+
+-- then 1 pulls from 2; both put over it at 200, and each pulls from the other
+abbrev pub tie : List Happening
+tie =
+    pulled
+    ++ installed
+    ++ at_two SendVector
     ∷ at_one (Finish installed_vector)
     ∷ at_one (Local (PutOver 1 (1 ∷ [])))
     ∷ at_one (Consume 200)
@@ -124,6 +138,14 @@ tie =
 abbrev pub Tie : Type 0
 Tie = (w : World) × Run begin tie w × IsOnly (IsRecordOf w 1) (file (2 ∷ []) (version 2 11) 3 200) × IsOnly (IsRecordOf w 2) (file (2 ∷ []) (version 2 11) 3 200)
     × ((w.at 1).known (version 1 10) ≡ true) × ((w.at 2).known (version 1 10) ≡ true)
+
+-- this is what 2 does next after these events
+abbrev pub DoesNext : List Happening → InstallNext → Type 0
+DoesNext hs next = (w : World) × Run begin hs w × IsAnswerAt w 2 next
+
+-- when it has pulled x it makes the file, and when it has installed it nothing is left to do
+abbrev pub Installs : Type 0
+Installs = DoesNext pulled (InstallNext.Do (InstallStep.Make (record { db = 1; version = 9 }))) × DoesNext (pulled ++ installed) InstallNext.Drained
 
 -- ---- a cycle of parents
 

@@ -14,6 +14,7 @@ use Rattle.vol_state.specs.Sums.{content_sum}
 use Rattle.vol_state.specs.Conditions.{root_uid}
 use Rattle.vol_state.specs.Maps.{Maps}
 use Rattle.vol_state.specs.Tables.{IsAt, IsDirectory, IsReached, Leads}
+use Rattle.vol_state.specs.Valid.{IsSummed}
 use Rattle.record_db.specs.Records.{Covered, Has, IsRecord}
 use Rattle.name_rules.specs.Recorded.{is_deletion}
 use Rattle.name_rules.specs.Tree.{is_file, kind_of}
@@ -57,6 +58,8 @@ pub record NumbersAreFresh (m : Maps) (consumed : ℕ) : Type 0 where
   pub first : (fid : ℕ) (o : Object) → IsAt m fid o → o.tag ≡ None → o.born ≤ o.last_local
   pub entries : (n : ℕ) (r : VolRecord) → m.entry n ≡ Some r → n < m.next_usn
   pub consumed_is : consumed ≤ m.next_usn
+  -- the journal has the record of each USN from 9 on
+  pub whole : (n : ℕ) → 9 ≤ n → n < m.next_usn → (r : VolRecord) × (m.entry n ≡ Some r)
 
 -- kept besides: the local records that aren't consumed say which objects changed
 pub record JournalIsTrue (own : ℕ) (m : Maps) (consumed : ℕ) : Type 0 where
@@ -130,8 +133,8 @@ consumed_of w d = (w.at d).consumed
 
 -- sums are those of contents
 pub record SumsAreOfContents (w : World) : Type 0 where
-  -- each object's sum is that of its contents
-  pub objects : (d fid : ℕ) (o : Object) → IsAt (w.at d).volume fid o → o.sum ≡ content_sum o.kind o.bytes
+  -- each object has the sum of its contents, of which a directory has none
+  pub objects : (d fid : ℕ) (o : Object) → IsAt (w.at d).volume fid o → IsSummed o
   -- the hash of each present file is that of some contents
   pub hashes : (u : Update) → In u w.all → is_file u ≡ true → (bytes : List ℕ) × (content_sum File bytes ≡ u.hash)
 

@@ -1,5 +1,5 @@
 -- What holds of every run.
-use Rattle.std.specs.Prelude.{◌≡◌, ◌⊎◌, ◌↔◌, ◌<◌, ◌≤◌, ◌-◌, ℕ, true, false, All, List, [], Option, length, sum_by, Bool, ◌∷◌, count_by}
+use Rattle.std.specs.Prelude.{◌≡◌, ◌⊎◌, ◌↔◌, ◌<◌, ◌≤◌, ◌-◌, ℕ, true, false, All, List, [], Option, length, sum_by, Bool, ◌∷◌, count_by, map}
 use Rattle.frs_base.specs.Options.{In}
 use Rattle.frs_base.specs.Versions.{same_uid}
 use Rattle.frs_base.specs.declared.kind.Kind.{Kind}
@@ -9,13 +9,12 @@ use Rattle.frs_base.specs.declared.version.Gvsn.{Gvsn}
 use Rattle.frs_base.specs.declared.version.Uid.{Uid}
 use Rattle.win_order.specs.declared.update.Update.{Update}
 use Rattle.vol_state.specs.declared.object.Object.{Object}
-use Rattle.vol_state.specs.declared.record.VolRecord.{VolRecord}
 use Rattle.vol_state.specs.declared.command.VolCmd.{VolCmd}
 use Rattle.vol_state.specs.State.{uid_of}
 use Rattle.vol_state.specs.Tables.{IsAt}
 use Rattle.record_db.specs.Records.{Versions, Covered, IsHeldOrBeaten}
 use Rattle.name_rules.specs.Tree.{IsRow, IsVolumeRow, kind_of}
-use Rattle.name_rules.specs.Next.{IsCandidate, IsDrained, IsNext, IsPending, IsQuiet, IsStepOf, IsTurn, Step as InstallStep}
+use Rattle.name_rules.specs.Next.{IsAnswer, IsCandidate, IsDrained, IsNext, IsPending, IsQuiet, IsStepOf, IsTurn, Next as InstallNext, Step as InstallStep}
 use Rattle.world_model.specs.World.{Member, World, SentVector, IsRecordOf, fresh_member, fresh_world}
 use Rattle.world_model.specs.Events.{Event, Step, Adopt, Install, Unstage, IsAllHeld, Consume}
 use Rattle.world_model.specs.Runs.{CoversAlike, Grows, Happening, Run}
@@ -23,7 +22,7 @@ use Rattle.world_model.specs.Invariant.{Invariant, SentIsKnown, VersionsAreMade}
 use Rattle.world_model.specs.Folder.{FolderIsSound, FoldersStaySound}
 use Rattle.world_model.specs.Rounds.{GoesOn, MayFinish, Polls, Round, RoundIsTrue}
 use Rattle.world_model.specs.Due.{Lowers, Sees, View, due}
-use Rattle.world_model.specs.Lives.{Deed, FlightsAreKept, Happens, IsInFlight, Life, LifeRun}
+use Rattle.world_model.specs.Lives.{Act, Deed, Does, FlightsAreKept, IsInFlight, Life, LifeRun, Lives, Restarts, Stops, first_life}
 
 -- ---- the invariant
 
@@ -61,11 +60,12 @@ CoveredIsHeld = (w : World) → VersionsAreMade w → (d : ℕ)
     → ((u : Update) → Covered w.all (w.at d).known u → IsHeldOrBeaten (IsRecordOf w d) u)
     × ((u v : Update) → IsRecordOf w d u → IsRecordOf w d v → u.uid ≡ v.uid → u ≡ v)
 
--- a sent vector and a recorded change stay covered, and are held or beaten from then on
+-- what a sent vector covers and what is recorded stays covered, and is held or beaten from then on
 abbrev pub StaysCovered : Type 0
 StaysCovered = (w new : World) → VersionsAreMade w → VersionsAreMade new → SentIsKnown w → Grows w new
     → ((s : SentVector) (g : Gvsn) → In s w.vectors → s.versions g ≡ true → (new.at s.from).known g ≡ true)
-    × ((u : Update) → In u w.all → IsHeldOrBeaten (IsRecordOf new u.gvsn.db) u)
+    × ((s : SentVector) (u : Update) → In s w.vectors → Covered w.all s.versions u → IsHeldOrBeaten (IsRecordOf new s.from) u)
+    × ((u : Update) → In u w.all → ((new.at u.gvsn.db).known u.gvsn ≡ true) × IsHeldOrBeaten (IsRecordOf new u.gvsn.db) u)
 
 -- members that cover the same versions, at one moment or at two, have the same records
 abbrev pub EqualVectorsHaveEqualRecords : Type 0
@@ -156,14 +156,61 @@ AllFoldersStaySound = (own : ℕ) (x : Member) (records : List Update) → Folde
 
 -- ---- stops and restarts
 
+-- where every member is up, no event is in flight
+abbrev pub FirstLivesAreKept : Type 0
+FirstLivesAreKept = (w : World) → FlightsAreKept (first_life w)
+
 -- every life keeps the invariant, All and what is covered only grow, and each event in flight can land as it would have then
 abbrev pub LivesAreSound : Type 0
 LivesAreSound = (l : Life) (ds : List Deed) (new : Life) → Invariant l.world → FlightsAreKept l → LifeRun l ds new
     → Invariant new.world × Grows l.world new.world × FlightsAreKept new
 
--- an event in flight has the change of its member that it would have had
+-- a member that is down with an event in flight may start with it, and it has the change of its member that it would have had
 abbrev pub FlightsCanLand : Type 0
-FlightsCanLand = (l : Life) (d : ℕ) (e : Event) (after : Member) → IsInFlight l d e after → (landed : Life) × Happens l d e Option.None landed × (landed.world.at d ≡ after)
+FlightsCanLand = (l : Life) (d : ℕ) (e : Event) (after : Member) → l.down d ≡ Option.Some (Option.Some e) → IsInFlight l d e after
+    → (landed : Life) × Lives l d (Restarts true) landed × (landed.world.at d ≡ after)
+
+-- a member stops and starts at any time
+pub record StopsAndStarts (l : Life) (d : ℕ) : Type 0 where
+  -- one that is up may stop with no event in flight
+  pub stops : l.down d ≡ Option.None → (new : Life) × Lives l d (Stops Option.None) new
+  -- or with each that may come
+  pub in_flight : (e : Event) (w : World) → l.down d ≡ Option.None → Step l.world d e w → (new : Life) × Lives l d (Stops (Option.Some e)) new
+  -- one that is down may start without what was in flight
+  pub starts : (flight : Option Event) → l.down d ≡ Option.Some flight → (new : Life) × Lives l d (Restarts false) new
+
+-- so does every member
+abbrev pub MembersStopAndStart : Type 0
+MembersStopAndStart = (l : Life) (d : ℕ) → StopsAndStarts l d
+
+-- each event is at the member of one of these acts
+abbrev pub AreAtMembersOf : List Happening → List Deed → Type 0
+AreAtMembersOf hs ds = (h : Happening) → In h hs → (a : Deed) × In a ds × (a.at ≡ h.at)
+
+-- what a run with stops leads to, a run without them leads to
+abbrev pub LivesAreRuns : Type 0
+LivesAreRuns = (l : Life) (ds : List Deed) (new : Life) → LifeRun l ds new → (hs : List Happening) × Run l.world hs new.world × AreAtMembersOf hs ds
+
+-- an event as an act
+abbrev pub deed_of : Happening → Deed
+deed_of h = record { at = h.at; act = Does h.event }
+
+-- and a run without stops is a run with them
+abbrev pub RunsAreLives : Type 0
+RunsAreLives = (w : World) (hs : List Happening) (new : World) → Run w hs new → LifeRun (first_life w) (map deed_of hs) (first_life new)
+
+-- so All is counted where members stop and start, too
+abbrev pub AllIsCountedInLives : Type 0
+AllIsCountedInLives = (kinds : ℕ → MemberKind) (members : List ℕ) (ds : List Deed) (new : Life) → All (λ a. In a.at members) ds
+    → LifeRun (first_life (fresh_world kinds)) ds new → length new.world.all ≤ sum_by (λ d. (new.world.at d).consumed - 9) members
+
+-- an event leads to one world
+abbrev pub EventsAreOne : Type 0
+EventsAreOne = (w : World) → VersionsAreMade w → (d : ℕ) (e : Event) (a b : World) → Step w d e a → Step w d e b → a ≡ b
+
+-- and an act to one life: an event in flight lands in one way
+abbrev pub ActsAreOne : Type 0
+ActsAreOne = (l : Life) → VersionsAreMade l.world → (d : ℕ) (act : Act) (a b : Life) → Lives l d act a → Lives l d act b → a ≡ b
 
 -- ---- how much is due
 
@@ -215,17 +262,13 @@ FreshMembersAreDrained = (kinds : ℕ → MemberKind) (d : ℕ) → IsDrainedAt 
 
 -- ---- the next step
 
--- each journal record that isn't consumed is there
-abbrev pub HasItsRecords : Member → Type 0
-HasItsRecords x = (n : ℕ) → x.consumed ≤ n → n < x.volume.next_usn → (r : VolRecord) × (x.volume.entry n ≡ Option.Some r)
-
 -- the next step of a member
 abbrev pub IsNextAt : World → ℕ → InstallStep → Type 0
 IsNextAt w d step = IsNext (IsRecordOf w d) d (w.at d).volume (w.at d).staged (w.at d).consumed step
 
 -- a member with no pending local record is drained, or has a next step, whose turn it is
 abbrev pub QuietMembersGoOn : Type 0
-QuietMembersGoOn = (w : World) → Invariant w → (d : ℕ) → HasItsRecords (w.at d) → IsQuiet (w.at d).consumed (w.at d).volume
+QuietMembersGoOn = (w : World) → Invariant w → (d : ℕ) → IsQuiet (w.at d).consumed (w.at d).volume
     → IsDrainedAt w d ⊎ ((step : InstallStep) × IsNextAt w d step × IsTurn (IsRecordOf w d) d (w.at d).volume (w.at d).staged step)
 
 -- it has one at most
@@ -235,3 +278,11 @@ NextStepsAreOne = (w : World) (d : ℕ) (a b : InstallStep) → IsNextAt w d a �
 -- a drained member has none
 abbrev pub DrainedMembersHaveNone : Type 0
 DrainedMembersHaveNone = (w : World) → Invariant w → (d : ℕ) → IsDrainedAt w d → (step : InstallStep) → IsNextAt w d step → ⊥
+
+-- what a member answers when it is asked for its next step
+abbrev pub IsAnswerAt : World → ℕ → InstallNext → Type 0
+IsAnswerAt w d next = IsAnswer (IsRecordOf w d) d (w.at d).volume (w.at d).staged (w.at d).consumed next
+
+-- each member has one answer, and no other
+abbrev pub MembersHaveOneAnswer : Type 0
+MembersHaveOneAnswer = (w : World) → Invariant w → (d : ℕ) → (next : InstallNext) × IsAnswerAt w d next × ((other : InstallNext) → IsAnswerAt w d other → other ≡ next)

@@ -11,6 +11,10 @@ pub record Life : Type 0 where
   pub world : World
   pub down : ℕ → Option (Option Event)
 
+-- the life of a world in which every member is up
+abbrev pub first_life : World → Life
+first_life w = record { world = w; down = λ d. None }
+
 -- what happens at a member
 pub data Act : Type 0 where
   -- an event

@@ -1,12 +1,12 @@
 -- A round, in which a member pulls from another.
-use Rattle.std.specs.Prelude.{◌≡◌, ◌⊎◌, ◌&&◌, not, ℕ, true, false, List, [], ◌∷◌, ◌++◌}
+use Rattle.std.specs.Prelude.{◌≡◌, ◌⊎◌, ◌&&◌, not, ℕ, zero, suc, true, false, List, [], ◌∷◌, ◌++◌}
 use Rattle.frs_base.specs.Options.{In}
 use Rattle.frs_base.specs.declared.version.Gvsn.{Gvsn}
 use Rattle.win_order.specs.declared.update.Update.{Update}
 use Rattle.record_db.specs.Records.{Versions, Covered, IsBetter, IsHeldOrBeaten, IsRecord}
 use Rattle.name_rules.specs.Tree.{is_file}
 use Rattle.world_model.specs.World.{World, IsRecordOf}
-use Rattle.world_model.specs.Events.{Step, SendVector, SendUpdate, Adopt}
+use Rattle.world_model.specs.Events.{Step, SendVector, SendUpdate, Adopt, Finish}
 
 -- the vector that was sent, what of it is still asked for, and the files that are still to be fetched
 pub record Round : Type 0 where
@@ -66,3 +66,16 @@ MayFinish w r = ((u : Update) → IsRecord w.all r.versions u → r.rest u.gvsn 
 -- an act of a round
 abbrev pub GoesOn : World → ℕ → ℕ → Round → World → Round → Type 0
 GoesOn w puller server r new after = Pages w puller server r new after ⊎ Fetches w puller server r new after
+
+-- so many of them, one after the other
+abbrev pub GoesOnBy : ℕ → World → ℕ → ℕ → Round → World → Round → Type 0
+GoesOnBy zero w puller server r new after = (new ≡ w) × (after ≡ r)
+GoesOnBy (suc acts) w puller server r new after =
+    (mid : World) × (between : Round) × GoesOn w puller server r mid between × GoesOnBy acts mid puller server between new after
+
+-- a whole round: it begins, goes on until it may be finished, and is finished
+abbrev pub IsRound : World → ℕ → ℕ → World → Type 0
+IsRound w puller server new =
+    (sent : World) × (begun : Round) × (acts : ℕ) × (last : World) × (ended : Round)
+    × Polls w puller server sent begun × GoesOnBy acts sent puller server begun last ended
+    × MayFinish last ended × Step last puller (Finish ended.versions) new

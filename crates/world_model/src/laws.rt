@@ -1,5 +1,5 @@
 // What holds of every run.
-ghost use Rattle.world_model.specs.Laws.{AdoptionsAreFit, AllFoldersStaySound, AllIsCounted, AtMostFourAreDone, AtMostFourAreDue, CoverIsStable, CoveredIsHeld, DrainedMembersHaveNone, DrainedVolumesAreTrees, DrainedWhereNothingIsDue, EqualVectorsHaveEqualRecords, EqualVectorsHaveEqualTrees, EventsKeepTheInvariant, FinishedRoundsAreHeld, FlightsCanLand, FoldersBeginSound, FreshMembersAreDrained, FreshWorldsAreSound, LivesAreSound, NextStepsAreOne, NextStepsCanBeDone, PendingObjectsStay, QuietMembersGoOn, RoundsStayTrue, RunsKeepTheInvariant, StaysCovered, StepsLowerWhatIsDue, ViewsAreThere};
+ghost use Rattle.world_model.specs.Laws.{ActsAreOne, AdoptionsAreFit, AllFoldersStaySound, AllIsCounted, AllIsCountedInLives, AtMostFourAreDone, AtMostFourAreDue, CoverIsStable, CoveredIsHeld, DrainedMembersHaveNone, DrainedVolumesAreTrees, DrainedWhereNothingIsDue, EqualVectorsHaveEqualRecords, EqualVectorsHaveEqualTrees, EventsAreOne, EventsKeepTheInvariant, FinishedRoundsAreHeld, FirstLivesAreKept, FlightsCanLand, FoldersBeginSound, FreshMembersAreDrained, FreshWorldsAreSound, LivesAreRuns, LivesAreSound, MembersHaveOneAnswer, MembersStopAndStart, NextStepsAreOne, NextStepsCanBeDone, PendingObjectsStay, QuietMembersGoOn, RoundsStayTrue, RunsAreLives, RunsKeepTheInvariant, StaysCovered, StepsLowerWhatIsDue, ViewsAreThere};
 
 /// Members that have done nothing keep the invariant.
 pub fn fresh_worlds_are_sound()
@@ -23,7 +23,8 @@ pub fn what_is_covered_is_held()
     ensures { CoveredIsHeld }
 {}
 
-/// A sent vector and a recorded change stay covered, and are held or beaten from then on.
+/// What a sent vector covers, and what is recorded, stays covered, and is held or beaten from then
+/// on.
 pub fn what_is_sent_stays_covered()
     ensures { StaysCovered }
 {}
@@ -64,6 +65,25 @@ pub fn flights_can_land()
     ensures { FlightsCanLand }
 {}
 
+/// A member that is up may stop, with each event in flight that may come or with none, and one that
+/// is down may start without it.
+pub fn members_stop_and_start()
+    ensures { MembersStopAndStart }
+{}
+
+/// Runs with stops lead between the same worlds as runs without, so All is counted in them too.
+pub fn lives_are_runs()
+    ensures without { LivesAreRuns }
+    ensures with_them { RunsAreLives }
+    ensures counted { AllIsCountedInLives }
+{}
+
+/// An event leads from a world to one world, and an event in flight lands in one way.
+pub fn events_are_one()
+    ensures events { EventsAreOne }
+    ensures acts { ActsAreOne }
+{}
+
 /// Every event keeps the invariant.
 pub fn events_keep_the_invariant()
     ensures { EventsKeepTheInvariant }
@@ -91,9 +111,11 @@ pub fn pending_objects_stay()
     ensures { PendingObjectsStay }
 {}
 
-/// Events, stops and restarts keep the invariant, and each event in flight can still land.
+/// Where every member is up no event is in flight. Events, stops and restarts keep the invariant,
+/// and each event in flight can still land.
 pub fn lives_are_sound()
-    ensures { LivesAreSound }
+    ensures first { FirstLivesAreKept }
+    ensures sound { LivesAreSound }
 {}
 
 /// Each next step of the installer can be done, where no local record is pending.
@@ -133,4 +155,10 @@ pub fn quiet_members_go_on()
     ensures goes_on { QuietMembersGoOn }
     ensures one { NextStepsAreOne }
     ensures drained { DrainedMembersHaveNone }
+{}
+
+/// What each member does next is one step, or nothing, or the first local journal record is to be
+/// consumed before.
+pub fn members_have_one_answer()
+    ensures { MembersHaveOneAnswer }
 {}

@@ -8,4 +8,4 @@ pub invariant_of-result : goal.invariant_of-result
 invariant_of-result c =
     let volume = subst IsVolume c.new-volume.ensures c.objects.ensures.valid in
     let book = subst IsBook c.new-book.ensures c.records.ensures.book in
-    rw (c.new-volume.ensures, c.new-book.ensures) (fresh_is_sound c.args.kind c.args.own c.args.set volume book)
+    rw (c.new-volume.ensures, c.new-book.ensures) (fresh_is_sound c.args.kind c.args.own c.args.set c.requires volume book)

@@ -1,0 +1,92 @@
+-- Each member has one answer to what it does next.
+use Rattle.std.proofs.Common.{◌≡◌, ◌⊎◌, ◌<◌, ◌≤◌, ◌+◌, ◌-◌, ℕ, zero, suc, Bool, true, false, ltb, refl, sym, ap, ◌∙◌, subst, arith, inl, inr, Option, Some, None}
+use Rattle.std.proofs.lemmas.Bool.{cases_eq}
+use Rattle.std.proofs.lemmas.Bool.Decides.{nat_tests}
+use Rattle.vol_state.specs.declared.record.VolRecord.{VolRecord}
+use Rattle.vol_state.specs.Maps.{Maps}
+use Rattle.name_rules.specs.Next.{IsFirstPending, IsPendingAt, IsQuiet, Next as InstallNext, Step as InstallStep}
+use Rattle.world_model.specs.Invariant.{NumbersAreFresh}
+use Rattle.world_model.specs.Laws.{IsAnswerAt, IsDrainedAt, IsNextAt, MembersHaveOneAnswer}
+use Rattle.world_model.proofs.Facts.{none_some, some_is, true_false}
+use Rattle.world_model.proofs.Deciding.{true_decided}
+use Rattle.world_model.proofs.Next.{drained_members_have_none, next_steps_are_one, quiet_members_go_on}
+
+-- ---- the first local record that isn't consumed
+
+-- no local record is left below
+abbrev NoneBelow : ℕ → Maps → ℕ → Type 0
+NoneBelow consumed m n = (j : ℕ) (r : VolRecord) → consumed ≤ j → j < n → m.entry j ≡ Some r → r.local ≡ false
+
+-- so each is at or past this USN
+at_or_past : (consumed : ℕ) (m : Maps) (n : ℕ) → NoneBelow consumed m n → (j : ℕ) → IsPendingAt consumed m j → n ≤ j
+at_or_past consumed m n none j (r, past, at, local) = elim (true_decided (ltb j n)) [
+  | inl e ↦ (let low : j < n = grind (arith, nat_tests, e) in absurd (true_false r.local local (none j r past low at)))
+  | inr k ↦ (grind (arith, nat_tests, k))
+]
+
+-- one more isn't local
+none_below : (consumed : ℕ) (m : Maps) (n : ℕ) → NoneBelow consumed m n → ((r : VolRecord) → m.entry n ≡ Some r → r.local ≡ false) → NoneBelow consumed m (n + 1)
+none_below consumed m n none here j r past low at = elim (cases_eq j n) [
+  | inl e ↦ here r (subst (λ i. m.entry i ≡ Some r) e at)
+  | inr k ↦ none j r past (omega (arith, low, k)) at
+]
+
+-- the first one, or that there is none
+abbrev Found : ℕ → Maps → Type 0
+Found consumed m = ((usn : ℕ) × IsFirstPending consumed m usn) ⊎ IsQuiet consumed m
+
+found : (consumed : ℕ) (m : Maps) (k n : ℕ) → n + k ≡ m.next_usn → ((j : ℕ) (r : VolRecord) → m.entry j ≡ Some r → j < m.next_usn) → consumed ≤ n → NoneBelow consumed m n → Found consumed m
+found consumed m zero n e below past none = inr (λ j r from at. (let l = below j r at in none j r from (omega (arith, l, e)) at))
+found consumed m (suc k) n e below past none = by (m.entry n) refl (λ more. found consumed m k (n + 1) (omega (arith, e)) below (omega (arith, past)) more)
+  where
+    here : (r : VolRecord) → m.entry n ≡ Some r → (b : Bool) → r.local ≡ b → (NoneBelow consumed m (n + 1) → Found consumed m) → Found consumed m
+    here r at true local on = inl (n, record { pending = (r, past, at, local); least = at_or_past consumed m n none })
+    here r at false local on = on (none_below consumed m n none (λ q there. ap (λ z. z.local) (some_is q r (sym there ∙ at)) ∙ local))
+
+    by : (x : Option VolRecord) → m.entry n ≡ x → (NoneBelow consumed m (n + 1) → Found consumed m) → Found consumed m
+    by None at on = on (none_below consumed m n none (λ q there. absurd (none_some q (sym at ∙ there))))
+    by (Some r) at on = here r at r.local refl on
+
+not_quiet : (consumed : ℕ) (m : Maps) (usn : ℕ) → IsPendingAt consumed m usn → IsQuiet consumed m → ⊥
+not_quiet consumed m usn (r, past, at, local) quiet = true_false r.local local (quiet usn r past at)
+
+-- ---- the answer
+
+pub members_have_one_answer : MembersHaveOneAnswer
+members_have_one_answer w h d = elim (found c m (m.next_usn - c) c (omega (arith, most)) numbers.entries (omega arith) (λ j r past low at. absurd (omega (arith, past, low)))) [
+  | inl (usn, first) ↦ (InstallNext.NotYet usn, first, pending usn first)
+  | inr quiet ↦ elim (quiet_members_go_on w h d quiet) [
+    | inl drained ↦ (InstallNext.Drained, drained, nothing quiet drained)
+    | inr (step, next, turn) ↦ (InstallNext.Do step, (quiet, next), does quiet step next)
+  ]
+]
+  where
+    c : ℕ
+    c = (w.at d).consumed
+
+    m : Maps
+    m = (w.at d).volume
+
+    numbers : NumbersAreFresh m c
+    numbers = (h.members d).numbers
+
+    most : c ≤ m.next_usn
+    most = numbers.consumed_is
+
+    pending : (usn : ℕ) → IsFirstPending c m usn → (other : InstallNext) → IsAnswerAt w d other → other ≡ InstallNext.NotYet usn
+    pending usn first (InstallNext.Do step) a = absurd (not_quiet c m usn first.pending a.0)
+    pending usn first InstallNext.Drained a = absurd (not_quiet c m usn first.pending a.quiet)
+    pending usn first (InstallNext.NotYet n) a = ap InstallNext.NotYet (same (a.least usn first.pending) (first.least n a.pending))
+      where
+        same : n ≤ usn → usn ≤ n → n ≡ usn
+        same p q = omega (arith, p, q)
+
+    nothing : IsQuiet c m → IsDrainedAt w d → (other : InstallNext) → IsAnswerAt w d other → other ≡ InstallNext.Drained
+    nothing quiet drained (InstallNext.Do step) a = absurd (drained_members_have_none w h d drained step a.1)
+    nothing quiet drained InstallNext.Drained a = refl
+    nothing quiet drained (InstallNext.NotYet n) a = absurd (not_quiet c m n a.pending quiet)
+
+    does : IsQuiet c m → (step : InstallStep) → IsNextAt w d step → (other : InstallNext) → IsAnswerAt w d other → other ≡ InstallNext.Do step
+    does quiet step next (InstallNext.Do other) a = ap InstallNext.Do (next_steps_are_one w d other step a.1 next)
+    does quiet step next InstallNext.Drained a = absurd (drained_members_have_none w h d a step next)
+    does quiet step next (InstallNext.NotYet n) a = absurd (not_quiet c m n a.pending quiet)
