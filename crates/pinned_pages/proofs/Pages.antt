@@ -1,5 +1,5 @@
 -- Pages that grow record by record, and interval by interval.
-use Rattle.std.proofs.Common.{◌≡◌, ◌⊎◌, ◌∙◌, ◌+◌, ◌<◌, ◌≤◌, ◌&&◌, ◌||◌, ℕ, Bool, true, false, List, [], ◌∷◌, ◌++◌, inl, inr, refl, sym, ap, subst, arith, nat_lt, take}
+use Rattle.std.proofs.Common.{◌≡◌, ◌⊎◌, ◌∙◌, ◌+◌, ◌<◌, ◌≤◌, ◌&&◌, ◌||◌, ℕ, Bool, true, false, List, [], ◌∷◌, ◌++◌, inl, inr, Some, None, zero, suc, refl, sym, ap, subst, arith, nat_lt, take, length, get_or}
 use Rattle.std.specs.List.{AllByRecursion}
 use Rattle.std.proofs.lemmas.Bool.Decides.{nat_tests}
 use Rattle.frs_base.specs.Options.{In}
@@ -66,6 +66,9 @@ below i low g = inside i g && nat_lt g.version low
 -- what is left of an interval from a version on
 abbrev pub left : Interval → ℕ → Interval
 left i low = record i { low = low }
+
+pub low_end : (i : Interval) (g : Gvsn) → inside i g ≡ true → i.low ≤ g.version
+low_end i g at = grind (arith, nat_tests)
 
 pub first_kept : (i : Interval) (records : List Update) (r : Update) → IsFirstFrom (record { db = i.db; version = i.low }) records (Some r) → inside i r.gvsn ≡ true → IsFirstWithin i records (Some r)
 first_kept i records r first within = (first.0, within, λ u h at. first.2 u h (from i u.gvsn at))
@@ -185,6 +188,12 @@ page_joins pre i records page added form p q =
     page_joined (covers pre) (inside i) (covers (pre ++ i ∷ [])) records page added p q
     (λ u v h k. covered_below pre i u.gvsn v.gvsn form (p.each u h).1 (q.each v k).1)
     (λ g. covers-append pre (i ∷ []) g ∙ ap (λ b. covers pre g || b) (or_false (inside i g)))
+
+-- a list's beginning becomes longer by the item behind it
+pub beginning_grows : {X : Type 0} (xs : List X) (n : ℕ) (x d : X) → n < length xs → x ≡ get_or xs n d → take n xs ++ x ∷ [] ≡ take (n + 1) xs
+beginning_grows [] n x d within is = absurd (omega arith)
+beginning_grows (y ∷ xs) zero x d within is = ap (λ z. z ∷ []) is
+beginning_grows (y ∷ xs) (suc n) x d within is = let k : suc n + 1 ≡ suc (n + 1) = omega arith in ap (λ l. y ∷ l) (beginning_grows xs n x d (omega arith) is) ∙ sym (ap (λ m. take m (y ∷ xs)) k)
 
 pub page_of_none : (records : List Update) → IsPage (covers []) records []
 page_of_none records = record { ordered = tt; each = λ u h. absurd h; whole = λ u h asked. absurd (cc) }

@@ -1,5 +1,5 @@
 // The records whose versions are asked for.
-ghost use Rattle.std.specs.Prelude.{OnOk, option_copied};
+ghost use Rattle.std.specs.Prelude.{◌<◌, ◌-◌, ◌^◌, IfSome, OnOk, option_copied};
 ghost use Rattle.pinned_pages.specs.Pages.{IsFirstWithin, IsLonger};
 
 use frs_base::Gvsn;
@@ -8,9 +8,10 @@ use std::alloc::AllocError;
 use version_vector::Interval;
 use win_order::Update;
 
-/// The record with the lowest version in an interval.
+/// The record with the lowest version in an interval, which has a version after it.
 fn first_within<'a>(records: &'a Records, interval: &Interval) -> Option<&'a Update>
-    ensures { IsFirstWithin interval.now records.now (option_copied result) }
+    ensures first { IsFirstWithin interval.now records.now (option_copied result) }
+    ensures next { IfSome result (λ u. u.now.gvsn.version < 2 ^ 64 - 1) }
 {
     let first = records.first_from(Gvsn {
         db: interval.db,
