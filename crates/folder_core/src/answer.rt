@@ -6,7 +6,7 @@ ghost use Rattle.folder_core.specs.declared.reply.Reply.TheVariants as reply;
 use crate::{Mark, Refusal, Reply};
 
 /// A reply, its mark, and whether the vector changed.
-#[derive(Debug, Drop)]
+#[derive(Drop)]
 pub(crate) struct Answer {
     pub(crate) reply: Reply,
     pub(crate) mark: Mark,

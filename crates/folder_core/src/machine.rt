@@ -50,7 +50,7 @@ impl Machine {
         let volume = Volume::new(own);
         let book = Book::new(kind, own, set);
         let _ = volume.objects();
-        let _ = book.records();
+        let _ = book.vector();
         Machine { volume, book }
     }
 

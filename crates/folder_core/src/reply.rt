@@ -4,7 +4,7 @@ use frs_base::Gvsn;
 use pinned_pages::{FileAnswer, Pinned};
 
 /// What a member answers to an event.
-#[derive(Debug, Drop)]
+#[derive(Drop)]
 pub enum Reply {
     /// A local operation got this USN.
     Usn(u64),

@@ -214,11 +214,13 @@ fn have_clocks(records: &[Update]) -> bool
 
 /// What consuming the next record comes to, where its condition holds.
 fn answer(
+    alloc: Global,
     volume: &Volume,
     book: &Book,
     moment: u64,
 ) -> Result<Result<Consumed, ConsumeError>, Fail> {
-    if volume.own() != book.own() || !have_clocks(book.records()) {
+    let records = book.rows(alloc)?;
+    if volume.own() != book.own() || !have_clocks(&records) {
         return Err("not of one member, or not in time")?;
     }
     let usn = book.consumed();
@@ -250,7 +252,7 @@ fn parts_answer(
     let finished = words.next() == Some("normal");
     let consumed = number(words.next())?;
     fill_book(alloc, book, finished, consumed, held)?;
-    answer(volume, book, moment.parse::<u64>()?)
+    answer(alloc, volume, book, moment.parse::<u64>()?)
 }
 
 /// The answer of a row: what was done to the volume, then the member's kind, its phase and the USN

@@ -252,7 +252,7 @@ fn text_of(alloc: Global, reply: &Reply) -> Result<String, Fail> {
         Reply::Sent(pinned) => {
             let (parts, records) = (
                 pinned.vector.intervals().len(),
-                pinned.records.as_slice().len(),
+                pinned.records.len(),
             );
             let at = pinned.at;
             format!(in alloc; "sent {parts} of {records} at {at}")?
@@ -268,7 +268,7 @@ fn text_of(alloc: Global, reply: &Reply) -> Result<String, Fail> {
 fn state_text(alloc: Global, folder: &Folder) -> Result<String, Fail> {
     let book = folder.book();
     let (next, consumed) = (folder.volume().next_usn(), book.consumed());
-    let (parts, records) = (book.vector().intervals().len(), book.records().len());
+    let (parts, records) = (book.vector().intervals().len(), book.rows(alloc)?.len());
     let generation = folder.generation();
     Ok(format!(in alloc; "{next} {consumed} {parts} {records} {generation}")?)
 }
@@ -338,16 +338,17 @@ fn try_alone(rt: &impl Abort, alloc: Global, rows: &str) -> Result<(), Fail> {
 }
 
 /// The one record is of this directory, which is gone.
-fn is_gone(folder: &Folder, uid: &Uid) -> bool {
-    let [record] = folder.book().records() else {
-        return false;
+fn is_gone(alloc: Global, folder: &Folder, uid: &Uid) -> Result<bool, Fail> {
+    let records = folder.book().rows(alloc)?;
+    let [record] = records.as_slice() else {
+        return Ok(false);
     };
-    !record.present
+    Ok(!record.present
         && record.uid == *uid
         && record.is_directory()
         && record.fence == 2
         && record.clock == 12
-        && record.created == 10
+        && record.created == 10)
 }
 
 /// Makes a directory, moves it and removes it.
@@ -364,7 +365,7 @@ consume 11 -> skipped 10 | 12 11 1 1 5
 consume 12 -> made 11 | 12 12 1 1 6
 consume 13 -> nothing | 12 12 1 1 6",
     )?;
-    assert!(rt; is_gone(folder, &file_of(1, 9)));
+    assert!(rt; is_gone(alloc, folder, &file_of(1, 9))?);
     Ok(())
 }
 

@@ -6,7 +6,7 @@ use record_db::Book;
 use std::alloc::Global;
 use std::process::Abort;
 use std::test::Fail;
-use version_vector::Interval;
+use version_vector::{Interval, Vector};
 use win_order::Update;
 
 fn file(born: u64) -> Uid {
@@ -56,6 +56,52 @@ fn has(alloc: Global, pinned: &Pinned, born: u64, version: u64) -> Result<bool, 
     Ok(pinned.find(file(born)) == Some(&wanted))
 }
 
+/// What is asked for, as intervals of the second member's versions, and the versions of the page.
+const PAGES: [(&[(u64, u64)], &str); 8] = [
+    (&[], ""),
+    (&[(9, 12)], "12@9 9@10 15@11 "),
+    (&[(5, 11)], "12@9 9@10 "),
+    (&[(10, 11)], "9@10 "),
+    (&[(9, 10), (11, 300)], "12@9 15@11 "),
+    (&[(1, 9)], ""),
+    (&[(1, 8), (12, 300)], ""),
+    (&[(11, 12), (13, 14), (15, 16)], "15@11 "),
+];
+
+/// The vector of these intervals of a member's versions.
+fn vector_of(alloc: Global, member: u64, parts: &[(u64, u64)]) -> Result<Vector, Fail> {
+    let mut intervals = Vec::new(alloc);
+    for (low, high) in parts {
+        intervals.push(Interval {
+            db: database_of(member),
+            low: *low,
+            high: *high,
+        })?;
+    }
+    Ok(Vector::of(alloc, &intervals)?)
+}
+
+/// The births and versions of a page.
+fn page_text(alloc: Global, pinned: &Pinned, asked: &Vector) -> Result<String, Fail> {
+    let mut text = String::new(alloc);
+    for update in &pinned.page(alloc, asked)? {
+        let (born, version) = (update.uid.version, update.gvsn.version);
+        text.push_str(format!(in alloc; "{born}@{version} ")?.as_str())?;
+    }
+    Ok(text)
+}
+
+/// The pages of what was pinned.
+fn look_at_pages(rt: &impl Abort, alloc: Global, pinned: &Pinned) -> Result<(), Fail> {
+    for (parts, wanted) in PAGES {
+        let asked = vector_of(alloc, 2, parts)?;
+        assert_eq!(rt; page_text(alloc, pinned, &asked)?.as_str(), wanted);
+        let others = vector_of(alloc, 3, parts)?;
+        assert_eq!(rt; page_text(alloc, pinned, &others)?.as_str(), "");
+    }
+    Ok(())
+}
+
 /// What was pinned of a book of three records at the third entry.
 fn look_at(rt: &impl Abort, alloc: Global, pinned: &Pinned) -> Result<(), Fail> {
     assert_eq!(rt; pinned.at, 3);
@@ -65,7 +111,7 @@ fn look_at(rt: &impl Abort, alloc: Global, pinned: &Pinned) -> Result<(), Fail> 
         high: 12,
     }];
     assert_eq!(rt; pinned.vector.intervals(), covered.as_slice());
-    assert_eq!(rt; pinned.records.as_slice().len(), 3);
+    assert_eq!(rt; pinned.records.len(), 3);
     for (born, version) in [(9, 10), (12, 9), (15, 11)] {
         assert!(rt; has(alloc, pinned, born, version)?, "{born}");
     }
@@ -95,6 +141,12 @@ fn pinned_once(alloc: Global) -> Result<Pinned, Fail> {
 fn a_pinned_state_stays(rt: HostRuntime) -> Result<(), Fail> {
     let pinned = pinned_once(rt.alloc())?;
     look_at(&rt, rt.alloc(), &pinned)
+}
+
+#[test]
+fn a_page_has_what_is_asked_for_and_was_pinned(rt: HostRuntime) -> Result<(), Fail> {
+    let pinned = pinned_once(rt.alloc())?;
+    look_at_pages(&rt, rt.alloc(), &pinned)
 }
 
 /// Reads of a body of ten bytes: from where, into how many, and what is then there.

@@ -6,10 +6,9 @@
 
 mod answer;
 mod body;
+mod page;
 mod pinned;
-mod records;
 
 pub use answer::FileAnswer;
 pub use body::Body;
 pub use pinned::Pinned;
-pub use records::Records;

@@ -13,7 +13,7 @@ use Rattle.win_order.specs.declared.update.Update.{Update}
 use Rattle.record_db.specs.Lists.{AreDistinct, put_any, put_record}
 use Rattle.record_db.specs.Staged.{staged_by, staged_with}
 use Rattle.record_db.specs.State.{BookState, IsBook}
-use Rattle.record_db.specs.Steps.{CoversMore, Widens, in_set}
+use Rattle.record_db.specs.Steps.{CoversMore, Widens}
 use Rattle.record_db.proofs.Forms.{with_rising}
 use Rattle.record_db.proofs.Keys.{same_gvsn_is}
 use Rattle.record_db.proofs.Lists.{put_all, put_rising}
@@ -29,7 +29,7 @@ apart_back : (g h : Gvsn) → same_gvsn g h ≡ false → same_gvsn h g ≡ fals
 apart_back g h apart = grind (arith, nat_tests)
 
 -- a version that isn't covered is none of those that are
-apart_covered : (vector : List Interval) (g : Gvsn) (records : List Update) → covers vector g ≡ false → AllByRecursion (λ u. covers vector u.gvsn ≡ true) records → AllByRecursion (λ u. same_gvsn g u.gvsn ≡ false) records
+pub apart_covered : (vector : List Interval) (g : Gvsn) (records : List Update) → covers vector g ≡ false → AllByRecursion (λ u. covers vector u.gvsn ≡ true) records → AllByRecursion (λ u. same_gvsn g u.gvsn ≡ false) records
 apart_covered vector g [] new a = tt
 apart_covered vector g (u ∷ us) new a = (by (same_gvsn g u.gvsn) refl, apart_covered vector g us new a.1)
   where
@@ -51,7 +51,7 @@ put_distinct u (r ∷ rs) d a = by (uid_lt r.uid u.uid) (same_uid r.uid u.uid) (
 
 -- a book with a wider vector, with an update that it newly covers, and with a form of its file
 pub kept : (book : BookState) (vector : List Interval) (next : ℕ) (update : Option Update) (form : Option (List ℕ)) → IsBook book → Widens book vector next update
-    → IsBook (record book { records = put_any (option_map (in_set book.set) update) book.records; vector = vector; consumed = next; staged = staged_by update form book.staged })
+    → IsBook (record book { records = put_any update book.records; vector = vector; consumed = next; staged = staged_by update form book.staged })
 kept book vector next None form b w = record {
   rising = b.rising;
   set = b.set;
@@ -63,12 +63,11 @@ kept book vector next None form b w = record {
   staged = b.staged;
 }
 kept book vector next (Some u) form b w =
-    let own : Update = in_set book.set u in
     record {
-      rising = put_rising own book.records b.rising;
-      set = put_all (λ r. r.set ≡ book.set) own book.records b.set refl;
-      covered = put_all (λ r. covers vector r.gvsn ≡ true) own book.records (covered_more book.vector vector book.records w.wider b.covered) w.new.0;
-      distinct = put_distinct own book.records b.distinct (apart_covered book.vector u.gvsn book.records w.new.1 b.covered);
+      rising = put_rising u book.records b.rising;
+      set = put_all (λ r. r.set ≡ book.set) u book.records b.set w.set;
+      covered = put_all (λ r. covers vector r.gvsn ≡ true) u book.records (covered_more book.vector vector book.records w.wider b.covered) w.new.0;
+      distinct = put_distinct u book.records b.distinct (apart_covered book.vector u.gvsn book.records w.new.1 b.covered);
       made = w.made;
       canonical = w.canonical;
       within = w.within;

@@ -2,6 +2,7 @@ pub mod Keys
 pub mod Sets
 pub mod Best
 pub mod Lists
+pub mod Maps
 pub mod Places
 pub mod Forms
 pub mod Kept

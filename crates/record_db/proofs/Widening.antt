@@ -1,6 +1,6 @@
 -- A command whose condition holds widens the vector as a book may.
 use Rattle.std.proofs.Common.{◌≡◌, ◌<◌, ◌≤◌, ◌+◌, ◌^◌, ◌-◌, ◌&&◌, ◌||◌, not, ℕ, Bool, true, false, cond, eqb, leb, ltb, List, [], ◌∷◌, refl, sym, ap, ◌∙◌, subst, length, Option, Some, None, inl, inr, arith}
-use Rattle.std.specs.Prelude.{find, is_none}
+use Rattle.std.specs.Prelude.{find, is_none, option_map}
 use Rattle.std.proofs.lemmas.Bool.Decides.{nat_tests}
 use Rattle.frs_base.specs.Options.{none_or}
 use Rattle.frs_base.specs.Versions.{same_gvsn, same_uid}
@@ -12,9 +12,12 @@ use Rattle.version_vector.proofs.Insertions.{adds_version, inserted_form}
 use Rattle.version_vector.specs.declared.interval.Interval.{Interval}
 use Rattle.win_order.specs.declared.update.Update.{Update}
 use Rattle.record_db.specs.declared.command.BookCmd.TheVariants.{RecordLocal, Adopt, Finish}
+use Rattle.record_db.specs.Lists.{put_any}
 use Rattle.record_db.specs.Records.{both, plus}
+use Rattle.record_db.specs.Staged.{staged_by}
+use Rattle.record_db.specs.declared.staged.Staged.{Staged}
 use Rattle.record_db.specs.State.{BookState, CoversBelow, IsBook, IsVector}
-use Rattle.record_db.specs.Steps.{Changes, CoversNew, Widens, covered_after, covered_with, gives_way, has_next, is_ahead, is_past, may_adopt, may_finish, may_record, own_version}
+use Rattle.record_db.specs.Steps.{Changes, CoversNew, IsOfSet, Widens, covered_after, covered_with, gives_way, has_next, in_set, is_ahead, is_past, may_adopt, may_finish, may_record, own_version}
 use Rattle.record_db.proofs.Keys.{same_gvsn_is}
 use Rattle.record_db.proofs.Sets.{both_cases, both_old, plus_cases, plus_new, plus_old}
 
@@ -37,28 +40,35 @@ not_true false e = refl
 pub added : (g : Gvsn) (vector : List Interval) → IsCanonical vector → IsVector (plus (covers vector) g) (inserted (one_version g) vector)
 added g vector form = record { canonical = inserted_form (one_version g) vector (omega arith) form; covering = adds_version g vector form }
 
-pub changed_by_record : (book new : BookState) (usn : ℕ) (update : Option Update) (g : Gvsn) → g ≡ own_version book usn → IsBook book → new ≡ covered_with book g (usn + 1) update None → Changes (RecordLocal usn update) book new
-changed_by_record book new usn update g own b e = subst (Changes (RecordLocal usn update) book) (sym e) (record {
+-- what is staged doesn't depend on the set
+staged_put : (set : ℕ) (update : Option Update) (form : Option (List ℕ)) (staged : List Staged) → staged_by (option_map (in_set set) update) form staged ≡ staged_by update form staged
+staged_put set None form staged = refl
+staged_put set (Some u) form staged = refl
+
+pub changed_by_record : (book new : BookState) (usn : ℕ) (update put : Option Update) (g : Gvsn) → g ≡ own_version book usn → put ≡ option_map (in_set book.set) update → IsBook book
+    → new ≡ covered_with book g (usn + 1) put None → Changes (RecordLocal usn update) book new
+changed_by_record book new usn update put g own is b e = subst (Changes (RecordLocal usn update) book) (sym e) (record {
   kind = refl;
   own = refl;
   set = refl;
-  records = refl;
+  records = ap (λ p. put_any p book.records) is;
   vector = subst (λ h. IsVector (plus (covers book.vector) h) (inserted (one_version g) book.vector)) own (added g book.vector b.canonical);
   consumed = refl;
   phase = refl;
-  staged = refl;
+  staged = ap (λ p. staged_by p None book.staged) is ∙ staged_put book.set update None book.staged;
 })
 
-pub changed_by_update : (book new : BookState) (u : Update) (form : Option (List ℕ)) → IsBook book → new ≡ covered_with book u.gvsn book.consumed (Some u) form → Changes (Adopt u form) book new
-changed_by_update book new u form b e = subst (Changes (Adopt u form) book) (sym e) (record {
+pub changed_by_update : (book new : BookState) (u : Update) (put : Option Update) (form : Option (List ℕ)) → put ≡ Some (in_set book.set u) → IsBook book
+    → new ≡ covered_with book u.gvsn book.consumed put form → Changes (Adopt u form) book new
+changed_by_update book new u put form is b e = subst (Changes (Adopt u form) book) (sym e) (record {
   kind = refl;
   own = refl;
   set = refl;
-  records = refl;
+  records = ap (λ p. put_any p book.records) is;
   vector = added u.gvsn book.vector b.canonical;
   consumed = refl;
   phase = refl;
-  staged = refl;
+  staged = ap (λ p. staged_by p form book.staged) is;
 })
 
 -- ---- the next journal record
@@ -85,8 +95,9 @@ unmade book b = by (covers book.vector (own_version book book.consumed)) refl
     by true e = absurd (let low = b.made (own_version book book.consumed) e refl in omega (arith, low))
 
 pub widens_record : (book : BookState) (usn : ℕ) (update : Option Update) (vector : List Interval) → IsBook book → may_record usn update book ≡ true
-    → IsVector (covered_after (RecordLocal usn update) book) vector → length vector ≤ 65536 → Widens book vector (usn + 1) update
+    → IsVector (covered_after (RecordLocal usn update) book) vector → length vector ≤ 65536 → Widens book vector (usn + 1) (option_map (in_set book.set) update)
 widens_record book usn update vector b may v within = record {
+  set = of_set update;
   canonical = v.canonical;
   within = within;
   wider = λ g e. v.covering g ∙ plus_old (covers book.vector) (own_version book usn) g e;
@@ -103,7 +114,11 @@ widens_record book usn update vector b may v within = record {
     unmade_then : covers book.vector (own_version book usn) ≡ false
     unmade_then = subst (λ n. covers book.vector (own_version book n) ≡ false) (sym (f.next)) (unmade book b)
 
-    new : (update : Option Update) → none_or (λ u. same_gvsn u.gvsn (own_version book usn)) update ≡ true → CoversNew book.vector vector update
+    of_set : (update : Option Update) → IsOfSet book (option_map (in_set book.set) update)
+    of_set None = tt
+    of_set (Some u) = refl
+
+    new : (update : Option Update) → none_or (λ u. same_gvsn u.gvsn (own_version book usn)) update ≡ true → CoversNew book.vector vector (option_map (in_set book.set) update)
     new None own = tt
     new (Some u) own =
         let same : own_version book usn ≡ u.gvsn = sym (same_gvsn_is u.gvsn (own_version book usn) own) in (
@@ -139,10 +154,11 @@ pub behind : (book : BookState) (db version : ℕ) → is_ahead book db version 
 behind book db version e own = grind (arith, nat_tests)
 
 pub widens_update : (book : BookState) (u : Update) (form : Option (List ℕ)) (vector : List Interval) → IsBook book → may_adopt u book ≡ true
-    → IsVector (covered_after (Adopt u form) book) vector → length vector ≤ 65536 → Widens book vector book.consumed (Some u)
+    → IsVector (covered_after (Adopt u form) book) vector → length vector ≤ 65536 → Widens book vector book.consumed (Some (in_set book.set u))
 widens_update book u form vector b may v within =
     let f = fits book u may in
     record {
+      set = refl;
       canonical = v.canonical;
       within = within;
       wider = λ g e. v.covering g ∙ plus_old (covers book.vector) u.gvsn g e;
@@ -173,6 +189,7 @@ none_past db version (i ∷ sent) none g covered same = by (is_past db version i
 pub widens_round : (book : BookState) (sent vector : List Interval) → IsBook book → may_finish sent book ≡ true → IsVector (covered_after (Finish sent) book) vector → length vector ≤ 65536
     → Widens book vector book.consumed None
 widens_round book sent vector b may v within = record {
+  set = tt;
   canonical = v.canonical;
   within = within;
   wider = λ g e. v.covering g ∙ both_old (covers book.vector) (covers sent) g e;

@@ -1,5 +1,6 @@
 pub mod Records
 pub mod Lists
+pub mod Maps
 pub mod Staged
 pub mod State
 pub mod Steps

@@ -125,15 +125,20 @@ CoversNew less more update = MatchOption update (Unit {0}) (λ u. (covers more u
 
 -- the book with a version covered, the journal consumed so far, and the update put of whose file this form is staged
 abbrev pub covered_with : BookState → Gvsn → ℕ → Option Update → Option (List ℕ) → BookState
-covered_with book g next update form = record book {
-  records = put_any (option_map (in_set book.set) update) book.records;
+covered_with book g next put form = record book {
+  records = put_any put book.records;
   vector = inserted (one_version g) book.vector;
   consumed = next;
-  staged = staged_by update form book.staged;
+  staged = staged_by put form book.staged;
 }
+
+-- the update, if there is one, is of the book's content set
+abbrev pub IsOfSet : BookState → Option Update → Type 0
+IsOfSet book put = MatchOption put (Unit {0}) (λ u. u.set ≡ book.set)
 
 -- a book may have this wider vector and this update, once it has consumed so far
 pub record Widens (book : BookState) (vector : List Interval) (next : ℕ) (update : Option Update) : Type 0 where
+  pub set : IsOfSet book update
   pub canonical : IsCanonical vector
   pub within : length vector ≤ 65536
   pub wider : CoversMore book.vector vector
@@ -157,8 +162,9 @@ CanCover (Adopt update form) merged book = HasRoomFor update.gvsn book
 CanCover (Finish sent) merged book = IsMerged sent book.state merged
 CanCover (Unstage uid) merged book = Unit {0}
 
--- the command may be taken without memory: there is room for a record and for a form, and for what is covered
+-- the command may be taken without memory: the update has some as one of the book's set, and there is room for a record and for a form, and for what is covered
 pub record Fits (ready : Ready) (book : Seen) : Type 0 where
+  pub put : ready.put ≡ option_map (in_set book.state.set) (update_of ready.cmd)
   pub room : 0 < book.room
   pub staged_room : 0 < book.staged_room
   pub vector : is_allowed ready.cmd book.state ≡ true → CanCover ready.cmd ready.merged.items book

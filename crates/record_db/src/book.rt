@@ -5,7 +5,8 @@ ghost use Rattle.record_db.specs.State.{IsBook, form_of, fresh_book};
 
 mod change;
 
-use crate::records::find_record;
+use crate::Records;
+use crate::record_table::RecordTable;
 use crate::staged::{Staged, find_form};
 use frs_base::{Bytes, Guid, MemberKind, Phase, ReservedVec, Uid};
 use std::alloc::{AllocError, Global};
@@ -21,12 +22,12 @@ const FIRST_USN: u64 = 9;
 ///
 /// A contract sees its state, and for how many more records, staged forms and intervals of its
 /// vector it has room.
-#[derive(Debug, Drop)]
+#[derive(Drop)]
 pub struct Book {
     kind: MemberKind,
     own: Guid,
     set: Guid,
-    records: ReservedVec<Update>,
+    records: RecordTable,
     vector: GrowingVector,
     consumed: u64,
     phase: Phase,
@@ -53,7 +54,7 @@ impl Book {
             kind,
             own,
             set,
-            records: ReservedVec::empty(),
+            records: RecordTable::empty(),
             vector: GrowingVector::empty(),
             consumed: FIRST_USN,
             phase: Phase::Initial,
@@ -82,14 +83,6 @@ impl Book {
         self.set
     }
 
-    /// The records, in order of their UIDs.
-    pub fn records(&self) -> &[Update]
-        ensures records { result.now ≡ self.now.state.records }
-        ensures book { IsBook self.now.state }
-    {
-        self.records.as_slice()
-    }
-
     /// The versions that the member covers.
     pub fn vector(&self) -> &GrowingVector
         ensures vector { result.now.items ≡ self.now.state.vector }
@@ -116,7 +109,7 @@ impl Book {
     pub fn held(&self, uid: Uid) -> Option<&Update>
         ensures { option_copied result ≡ find (λ r. same_uid r.uid uid) self.now.state.records }
     {
-        find_record(self.records.as_slice(), uid)
+        self.records.get(&uid)
     }
 
     /// The form that is staged of a file.
@@ -131,11 +124,15 @@ impl Book {
         ensures rows { IfOk result (λ rows. rows.items ≡ self.now.state.records) }
         ensures book { IsBook self.now.state }
     {
-        let records = self.records.as_slice();
-        let mut rows = Vec::with_capacity(alloc, records.len())?;
-        for record in records {
-            rows.push(record.copy()?)?;
-        }
-        Ok(rows)
+        self.records.rows(alloc)
+    }
+
+    /// The records as they are now: no later change reaches them. What it costs grows with what
+    /// changed since they were last shared. The book stays as it is, also after an error.
+    pub fn share(&mut self, alloc: Global) -> Result<Records, AllocError>
+        ensures records { IfOk result (λ records. records ≡ self.old.state.records) }
+        ensures same { self.new ≡ self.old }
+    {
+        self.records.share(alloc)
     }
 }

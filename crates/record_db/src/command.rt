@@ -1,6 +1,7 @@
 // What is done to a book.
-ghost use Rattle.std.specs.Prelude.{◌≡◌};
+ghost use Rattle.std.specs.Prelude.{◌≡◌, option_copied};
 
+use crate::shared_update::SharedUpdate;
 use frs_base::{Bytes, Uid};
 use version_vector::{GrowingVector, Vector};
 use win_order::Update;
@@ -19,20 +20,37 @@ pub enum BookCmd {
     Unstage { uid: Uid },
 }
 
+impl BookCmd {
+    ghost use Rattle.record_db.specs.Steps.{update_of};
+
+    /// The update that it puts among the records.
+    pub(crate) fn update(&self) -> Option<&Update>
+        ensures { option_copied result ≡ update_of self.now }
+    {
+        match self {
+            BookCmd::RecordLocal { usn: _, update } => update.as_ref(),
+            BookCmd::Adopt { update, form: _ } => Some(update),
+            BookCmd::Finish { sent: _ } | BookCmd::Unstage { uid: _ } => None,
+        }
+    }
+}
+
 /// A command with the memory that it needs.
-#[derive(Debug, Drop)]
+#[derive(Drop)]
 pub struct Ready {
     pub(crate) cmd: BookCmd,
+    // The update of the command as the book keeps it.
+    pub(crate) put: Option<SharedUpdate>,
     // What the book covers after a round, where its condition holds.
     pub(crate) merged: GrowingVector,
 }
 
 impl Ready {
-    /// The command, and what the book then covers if it is a round.
-    pub(crate) fn into_parts(self) -> (BookCmd, GrowingVector)
-        ensures { result ≡ (self.cmd, self.merged) }
+    /// The command, the update that it puts, and what the book then covers if it is a round.
+    pub(crate) fn into_parts(self) -> (BookCmd, Option<SharedUpdate>, GrowingVector)
+        ensures { result ≡ (self.cmd, self.put, self.merged) }
     {
-        let Ready { cmd, merged } = self;
-        (cmd, merged)
+        let Ready { cmd, put, merged } = self;
+        (cmd, put, merged)
     }
 }

@@ -1,45 +1,58 @@
-// Records in order of their files.
-ghost use Rattle.std.specs.Prelude.{◌≡◌, ◌<◌, find, option_copied};
-ghost use Rattle.std.specs.List.{prefix_len};
-ghost use Rattle.frs_base.specs.Versions.{same_uid, uid_lt};
-ghost use Rattle.record_db.specs.Lists.{IsRising, put_record};
+// Records as they were at one moment.
+ghost use Rattle.std.specs.Prelude.{◌≡◌, find, length, min, option_copied};
+ghost use Rattle.frs_base.specs.Versions.{same_uid};
+ghost use Rattle.record_db.specs.Maps.{IsFirstFrom};
 
-use frs_base::{ReservedVec, Uid};
+use frs_base::{Gvsn, Uid};
+use frs_pmap::Pmap;
+use std::marker::Model;
 use win_order::Update;
 
-/// How many records are of lower UIDs.
-fn place_of(records: &[Update], uid: Uid) -> usize
-    requires { IsRising records.now }
-    ensures { result ≡ prefix_len (λ r. uid_lt r.uid uid) records.now }
-{
-    records.partition_point(|r| r.uid < uid)
+/// The records of a member as they were at one moment, in memory that is shared with its book: no
+/// later change of the book reaches them.
+///
+/// A contract sees them as the list in order of their UIDs.
+#[derive(Drop)]
+pub struct Records {
+    pub(crate) files: Pmap<Uid, Update>,
+    pub(crate) versions: Pmap<Gvsn, Update>,
 }
 
-/// The record of a file, by binary search among records in order of their files.
-pub fn find_record(records: &[Update], uid: Uid) -> Option<&Update>
-    requires { IsRising records.now }
-    ensures { option_copied result ≡ find (λ r. same_uid r.uid uid) records.now }
-{
-    let at = place_of(records, uid);
-    if at < records.len() && records[at].uid == uid {
-        Some(&records[at])
-    } else {
-        None
+impl Model for Records {
+    ghost use Rattle.std.specs.Prelude.{List};
+    ghost use Rattle.std.specs.Map.{values_of};
+    ghost use Rattle.win_order.specs.declared.update.Update.{Update};
+    ghost use Rattle.record_db.specs.Maps.{AreFiled};
+
+    ghost Value = { List Update };
+
+    ghost view = { λ records. values_of records.files };
+
+    ghost invariant = { λ records. AreFiled records.files records.versions };
+}
+
+impl Records {
+    /// How many there are, or the most that a `usize` tells.
+    pub fn len(&self) -> usize
+        ensures { result ≡ min (length self.now) usize.MAX }
+    {
+        self.files.len()
     }
-}
 
-/// Puts an update in the place of the record of its file, or between those of lower and higher
-/// UIDs, where there is room for it.
-pub(crate) fn put_record(records: &mut ReservedVec<Update>, update: Update)
-    requires rising { IsRising records.old.items }
-    requires room { 0 < records.old.room }
-    ensures { records.new.items ≡ put_record update records.old.items }
-{
-    let held = records.as_slice();
-    let at = place_of(held, update.uid);
-    if at < held.len() && held[at].uid == update.uid {
-        records.set(at, update);
-    } else {
-        records.insert(at, update);
+    /// The record of a file or directory.
+    pub fn find(&self, uid: Uid) -> Option<&Update>
+        ensures { option_copied result ≡ find (λ r. same_uid r.uid uid) self.now }
+    {
+        self.files.get(&uid)
+    }
+
+    /// The record with the lowest version at a version or above it.
+    pub fn first_from(&self, g: Gvsn) -> Option<&Update>
+        ensures { IsFirstFrom g self.now (option_copied result) }
+    {
+        match self.versions.at_or_above(&g) {
+            None => None,
+            Some((_, update)) => Some(update),
+        }
     }
 }

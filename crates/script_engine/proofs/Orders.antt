@@ -9,7 +9,7 @@ use Rattle.frs_base.specs.declared.version.Uid.{Uid}
 use Rattle.win_order.specs.declared.update.Update.{Update}
 use Rattle.record_db.specs.Lists.{IsRising}
 use Rattle.record_db.proofs.Keys.{same_gvsn_is, same_uid_is, uid_total}
-use Rattle.script_engine.specs.Pulling.{IsByVersion}
+use Rattle.pinned_pages.specs.Pages.{IsByVersion}
 
 -- ---- lists in an order
 

@@ -23,7 +23,7 @@ use Rattle.script_engine.specs.declared.refusal.Refusal.{Refusal}
 use Rattle.script_engine.specs.declared.refusal.Refusal.TheVariants.{NotYet, VectorFull}
 use Rattle.script_engine.specs.Pulling.{IsLastPending, IsTooMuch, Takes, TakesFiles, TakesPages}
 use Rattle.script_engine.specs.Begun.{BeginsFiles, BeginsPages}
-use Rattle.script_engine.specs.Pulls.{AreCovered, ArePages, AreTreated, CanTake, version_lt}
+use Rattle.script_engine.specs.Pulls.{AreCovered, ArePages, AreTreated, CanTake}
 
 -- ---- lists
 
@@ -243,11 +243,3 @@ file_can w p s u v covered (held, is_held, better) file of_file = record {
     by : (held : Option Update) → MatchOption held (Unit {0}) (λ r. Beats u r) → MatchOption held (Unit {0}) (λ r. Beats v r)
     by None b = tt
     by (Some r) b = record { file = file ∙ b.file; greater = key_cut (key_of r) (key_of v) (key_of u) b.greater (not_below v u file (λ x. of_file.0.unbeaten u covered x)) }
-
--- ---- the page
-
-pub versions_rank : IsStrictWeakOrder version_lt
-versions_rank = record {
-  one_way = λ x y e. grind (arith, nat_tests);
-  chain = λ x y z e f. grind (arith, nat_tests);
-}

@@ -25,8 +25,9 @@ use Rattle.script_engine.specs.Engines.{Stands}
 use Rattle.script_engine.specs.Named.{HasName}
 use Rattle.script_engine.specs.Scene.{Scene, in_world}
 use Rattle.script_engine.specs.Pulling.{Ends, IsAsked, Pulls, TakesFiles, TakesPages}
-use Rattle.script_engine.specs.Pulls.{AreCovered, ArePages, AreTreated, FilesTaken, IsPinned, MayFinish, PagesTaken, PullEnds, uncovered, version_lt}
+use Rattle.script_engine.specs.Pulls.{AreCovered, ArePages, AreTreated, FilesTaken, IsPinned, MayFinish, PagesTaken, PullEnds, unknown}
 use Rattle.script_engine.specs.Widening.{IsVectorOf}
+use Rattle.pinned_pages.specs.Pages.{IsPage}
 use Rattle.script_engine.proofs.Asking.{asked_page}
 use Rattle.script_engine.proofs.Spoken.{machine_held}
 
@@ -119,9 +120,9 @@ pull_nameless w p e taken why new (sent, page, listed, at_once, fetched, None, m
 -- ---- of an engine
 
 -- the page that an engine asks for
-pub pull_asked : (old mid : Engine) (s : Scene) (at server : ℕ) (pinned : Pinned) (f : Seen) (vector : List Interval) (records page : List Update) → Stands old s → Stands mid (in_world s (sends_vector s.world server)) → IsPinned s.world server pinned
-    → slice_get mid.folders.items at ≡ Some f → vector ≡ f.machine.book.vector → records ≡ pinned.records → IsPermutation (uncovered vector records) page × IsSortedBy version_lt page → IsAsked s.world (database_of (at + 1)) server page
-pull_asked old mid s at server pinned f vector records page stands on is found same theirs (moved, sorted) =
+pub pull_asked : (old mid : Engine) (s : Scene) (at server : ℕ) (pinned : Pinned) (f : Seen) (vector : List Interval) (page : List Update) → Stands old s → Stands mid (in_world s (sends_vector s.world server)) → IsPinned s.world server pinned
+    → slice_get mid.folders.items at ≡ Some f → vector ≡ f.machine.book.vector → IsPage (unknown pinned.vector vector) pinned.records page → IsAsked s.world (database_of (at + 1)) server page
+pull_asked old mid s at server pinned f vector page stands on is found same asked =
     let m = machine_held mid (in_world s (sends_vector s.world server)) at f on found in
-    asked_page s.world (database_of (at + 1)) server f.machine.book.vector pinned.records page stands.machines.scene.world.invariant.versions
-    (record { canonical = m.book.vector.canonical; covering = m.book.vector.covering }) is.records (subst (λ l. IsPermutation l page) (λ i. uncovered (same i) (theirs i)) moved) sorted
+    asked_page s.world (database_of (at + 1)) server f.machine.book.vector pinned.vector pinned.records page
+    (record { canonical = m.book.vector.canonical; covering = m.book.vector.covering }) is.vector is.records (subst (λ v. IsPage (unknown pinned.vector v) pinned.records page) same asked)

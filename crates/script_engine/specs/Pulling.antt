@@ -7,6 +7,7 @@ use Rattle.frs_base.specs.declared.version.Uid.{Uid}
 use Rattle.win_order.specs.declared.update.Update.{Update}
 use Rattle.vol_state.specs.declared.record.VolRecord.{VolRecord}
 use Rattle.record_db.specs.Records.{Versions, both, plus}
+use Rattle.pinned_pages.specs.Pages.{IsByVersion}
 use Rattle.name_rules.specs.Tree.{is_file}
 use Rattle.world_model.specs.World.{World, IsRecordOf}
 use Rattle.world_model.specs.Events.{Step, SendVector, SendUpdate, Adopt, Finish, IsOfFile}
@@ -16,11 +17,6 @@ use Rattle.script_engine.specs.declared.refusal.Refusal.TheVariants.{NotYet, Vec
 use Rattle.script_engine.specs.Widening.{Exceeds, Fits}
 
 -- ---- pages
-
--- in order of their versions, each once
-abbrev pub IsByVersion : List Update → Type 0
-IsByVersion [] = Unit {0}
-IsByVersion (u ∷ us) = AllByRecursion (λ v. gvsn_lt u.gvsn v.gvsn ≡ true) us × IsByVersion us
 
 -- the server's records whose versions the puller doesn't cover, in order of their versions
 pub record IsAsked (w : World) (puller server : ℕ) (page : List Update) : Type 0 where

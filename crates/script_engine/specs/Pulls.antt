@@ -1,7 +1,6 @@
 -- What the parts of a pull do.
-use Rattle.std.specs.Prelude.{◌≡◌, ◌⊎◌, not, ℕ, Bool, true, false, List, Option, Some, None, Result, Ok, Err, filter}
+use Rattle.std.specs.Prelude.{◌≡◌, ◌⊎◌, ◌&&◌, not, ℕ, Bool, true, false, List, Option, Some, None, Result, Ok, Err}
 use Rattle.frs_base.specs.Options.{In}
-use Rattle.frs_base.specs.Versions.{gvsn_lt}
 use Rattle.frs_base.specs.declared.version.Uid.{Uid}
 use Rattle.marshal_form.specs.Local.{IsLocalForm}
 use Rattle.version_vector.specs.Versions.{covers}
@@ -26,13 +25,9 @@ use Rattle.script_engine.specs.Pulling.{Ends, IsLastPending, IsTooMuch, Pulls, T
 use Rattle.script_engine.specs.Scene.{Scene}
 use Rattle.script_engine.specs.Widening.{IsVectorOf}
 
--- which of two updates has the lower version
-abbrev pub version_lt : Update → Update → Bool
-version_lt a b = gvsn_lt a.gvsn b.gvsn
-
--- the updates whose versions the vector doesn't cover
-abbrev pub uncovered : List Interval → List Update → List Update
-uncovered vector records = filter (λ u. not (covers vector u.gvsn)) records
+-- the versions that one vector covers and the other doesn't
+abbrev pub unknown : List Interval → List Interval → Versions
+unknown sent own g = covers sent g && not (covers own g)
 
 -- the vector and the records of the member
 pub record IsPinned (w : World) (d : ℕ) (pinned : Pinned) : Type 0 where

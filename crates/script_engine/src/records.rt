@@ -40,7 +40,8 @@ pub fn records_text(alloc: Global, names: &[MemberName], book: &Book) -> Result<
     ensures { IfOk result (λ text. string_bytes text ≡ records_text names.now book.now.state.records) }
 {
     let mut text = String::new(alloc);
-    for record in book.records() {
+    let records = book.rows(alloc)?;
+    for record in &records {
         let line = record_text(alloc, names, record)?;
         text.push_str(line.as_str())?;
     }

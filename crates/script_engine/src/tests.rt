@@ -332,7 +332,8 @@ fn vectors_print_their_intervals(rt: HostRuntime) -> Result<(), Fail> {
 /// The counts of a book and of rows.
 fn counts(alloc: Global, book: &Book, rows: &[TreeRow]) -> Result<String, Fail> {
     let intervals = book.vector().intervals();
-    Ok(count_text(alloc, book.records(), rows, intervals)?)
+    let records = book.rows(alloc)?;
+    Ok(count_text(alloc, &records, rows, intervals)?)
 }
 
 /// The counts of a book with the four and of a volume after these rows.

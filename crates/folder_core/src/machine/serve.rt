@@ -16,11 +16,12 @@ use win_order::Update;
 
 impl Machine {
     /// What the member covers and its records, as of the entry at this place.
-    pub(crate) fn vector(&self, alloc: Global, at: u64) -> Result<Answer, AllocError>
-        ensures answers { IfOk result (λ answer. AnswersVector at self.now answer.reply self.now) }
-        ensures noted { IfOk result (λ answer. IsNoted answer self.now self.now) }
+    pub(crate) fn vector(&mut self, alloc: Global, at: u64) -> Result<Answer, AllocError>
+        ensures answers { IfOk result (λ answer. AnswersVector at self.old answer.reply self.old) }
+        ensures noted { IfOk result (λ answer. IsNoted answer self.old self.old) }
+        ensures same { self.new ≡ self.old }
     {
-        let pinned = Pinned::of(alloc, &self.book, at)?;
+        let pinned = Pinned::of(alloc, &mut self.book, at)?;
         let vector = self.book.vector().copy(alloc)?;
         Ok(Answer {
             reply: Reply::Sent(pinned),

@@ -1,17 +1,17 @@
 // The steps of commands.
-ghost use Rattle.std.specs.Prelude.{◌≡◌, ◌<◌, ◌-◌, ◌^◌, true, IfErr, IfOk, OnErr, OnOk, option_copied};
+ghost use Rattle.std.specs.Prelude.{◌≡◌, ◌<◌, ◌-◌, ◌^◌, true, IfErr, IfOk, OnErr, OnOk, Some, option_copied, option_map};
 ghost use Rattle.frs_base.specs.Options.{none_or};
 ghost use Rattle.frs_base.specs.Versions.{same_gvsn};
 ghost use Rattle.version_vector.specs.Places.{one_version};
 ghost use Rattle.version_vector.specs.Unions.{inserted};
-ghost use Rattle.record_db.specs.Steps.{CanCover, Changes, Fits, HasRoomFor, IsFull, IsMerged, IsStep, Widens, covered_with, gives_way, is_ahead, is_allowed, may_adopt, may_finish, may_record, own_version};
+ghost use Rattle.record_db.specs.Steps.{CanCover, Changes, Fits, HasRoomFor, IsFull, IsMerged, IsStep, Widens, covered_with, gives_way, in_set, is_ahead, is_allowed, may_adopt, may_finish, may_record, own_version, update_of};
 ghost use Rattle.record_db.specs.declared.command.BookCmd.TheVariants.{RecordLocal, Adopt, Finish, Unstage};
 
-use crate::records::put_record;
+use crate::shared_update::SharedUpdate;
 use crate::staged::{drop_form, put_form};
 use crate::{Book, BookCmd, Ready, first_past};
 use frs_base::{Bytes, Guid, Gvsn, Phase, Uid};
-use std::alloc::Global;
+use std::alloc::{AllocError, Global};
 use version_vector::{GrowingVector, Vector, VectorError};
 use win_order::Update;
 
@@ -112,29 +112,45 @@ impl Book {
         Ok(GrowingVector::empty())
     }
 
+    /// The update that a command puts, as one of the book's content set, in memory of its own.
+    fn update_to_put(
+        &self,
+        alloc: Global,
+        cmd: &BookCmd,
+    ) -> Result<Option<SharedUpdate>, AllocError>
+        ensures { IfOk result (λ put. put ≡ option_map (in_set self.now.state.set) (update_of cmd.now)) }
+    {
+        let Some(update) = cmd.update() else {
+            return Ok(None);
+        };
+        let mut update = update.copy()?;
+        update.set = self.set;
+        let put = SharedUpdate::of(alloc, update)?;
+        Ok(Some(put))
+    }
+
     /// Covers a version more, with how far the journal is consumed, and puts an update that has
     /// it, of whose file this form, or nothing, is staged then.
-    fn cover(&mut self, g: Gvsn, next: u64, update: Option<Update>, form: Option<Bytes>)
+    fn cover(&mut self, g: Gvsn, next: u64, put: Option<SharedUpdate>, form: Option<Bytes>)
         requires version { g.version < 2 ^ 64 - 1 }
         requires room { 0 < self.old.room }
         requires staged_room { 0 < self.old.staged_room }
         requires vector_room { 0 < self.old.vector_room }
-        requires widens { Widens self.old.state (inserted (one_version g) self.old.state.vector) next update }
-        ensures { self.new.state ≡ covered_with self.old.state g next update form }
+        requires widens { Widens self.old.state (inserted (one_version g) self.old.state.vector) next put }
+        ensures { self.new.state ≡ covered_with self.old.state g next put form }
     {
         self.vector.cover(g);
         self.consumed = next;
-        if let Some(update) = update {
-            let mut update = update;
-            update.set = self.set;
-            put_form(&mut self.staged, update.uid, form);
-            put_record(&mut self.records, update);
+        if let Some(update) = put {
+            put_form(&mut self.staged, update.uid(), form);
+            self.records.put(update);
         }
     }
 
     /// Consumes the next journal record.
-    fn change_by_record(&mut self, usn: u64, update: Option<Update>)
+    fn change_by_record(&mut self, usn: u64, update: Option<Update>, put: Option<SharedUpdate>)
         requires allowed { is_allowed (RecordLocal usn update) self.old.state ≡ true }
+        requires put { put ≡ option_map (in_set self.old.state.set) update }
         requires room { 0 < self.old.room }
         requires staged_room { 0 < self.old.staged_room }
         requires vector { HasRoomFor (own_version self.old.state usn) self.old }
@@ -142,12 +158,13 @@ impl Book {
     {
         let _ = self.vector();
         let version = self.own_version(usn);
-        self.cover(version, usn + 1, update, None);
+        self.cover(version, usn + 1, put, None);
     }
 
     /// Puts a partner's update.
-    fn change_by_update(&mut self, update: Update, form: Option<Bytes>)
+    fn change_by_update(&mut self, update: Update, form: Option<Bytes>, put: Option<SharedUpdate>)
         requires allowed { is_allowed (Adopt update form) self.old.state ≡ true }
+        requires put { put ≡ Some (in_set self.old.state.set update) }
         requires room { 0 < self.old.room }
         requires staged_room { 0 < self.old.staged_room }
         requires vector { HasRoomFor update.gvsn self.old }
@@ -156,7 +173,7 @@ impl Book {
         let _ = self.vector();
         let version = update.gvsn;
         let next = self.consumed;
-        self.cover(version, next, Some(update), form);
+        self.cover(version, next, put, form);
     }
 
     /// Covers all that a partner sent.
@@ -170,16 +187,17 @@ impl Book {
     }
 
     /// Does a command whose condition holds.
-    fn change(&mut self, cmd: BookCmd, merged: GrowingVector)
+    fn change(&mut self, cmd: BookCmd, put: Option<SharedUpdate>, merged: GrowingVector)
         requires allowed { is_allowed cmd self.old.state ≡ true }
+        requires put { put ≡ option_map (in_set self.old.state.set) (update_of cmd) }
         requires room { 0 < self.old.room }
         requires staged_room { 0 < self.old.staged_room }
         requires vector { CanCover cmd merged.items self.old }
         ensures { Changes cmd self.old.state self.new.state }
     {
         match cmd {
-            BookCmd::RecordLocal { usn, update } => self.change_by_record(usn, update),
-            BookCmd::Adopt { update, form } => self.change_by_update(update, form),
+            BookCmd::RecordLocal { usn, update } => self.change_by_record(usn, update, put),
+            BookCmd::Adopt { update, form } => self.change_by_update(update, form, put),
             BookCmd::Finish { sent } => self.change_by_round(merged, sent),
             BookCmd::Unstage { uid } => self.unstage(uid),
         }
@@ -198,9 +216,10 @@ impl Book {
         } else {
             GrowingVector::empty()
         };
-        self.records.reserve_one(alloc)?;
+        let put = self.update_to_put(alloc, &cmd)?;
+        self.records.reserve(alloc)?;
         self.staged.reserve_one(alloc)?;
-        Ok(Ready { cmd, merged })
+        Ok(Ready { cmd, put, merged })
     }
 
     /// Does a command for which there is room. A command whose condition doesn't hold changes
@@ -209,9 +228,9 @@ impl Book {
         requires { Fits ready self.old }
         ensures { IsStep ready.cmd self.old.state self.new.state }
     {
-        let (cmd, merged) = ready.into_parts();
+        let (cmd, put, merged) = ready.into_parts();
         if self.is_allowed(&cmd) {
-            self.change(cmd, merged);
+            self.change(cmd, put, merged);
         }
     }
 

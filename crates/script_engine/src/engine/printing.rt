@@ -66,7 +66,8 @@ impl Engine {
         };
         let folder = self.folder(at);
         let book = folder.book();
+        let records = book.rows(alloc)?;
         let rows = tree_rows(alloc, folder.volume())?;
-        count_text(alloc, book.records(), &rows, book.vector().intervals())
+        count_text(alloc, records.as_slice(), &rows, book.vector().intervals())
     }
 }

@@ -1,12 +1,11 @@
 // Lines that bring a member what another one has.
 ghost use Rattle.std.specs.Prelude.{◌≡◌, ◌≢◌, ◌<◌, ◌≤◌, ◌^◌, ◌⊎◌, true, IfOk, MatchOption, OnErr, OnOk, length, string_bytes};
-ghost use Rattle.std.specs.List.Sorted.{IsPermutation, IsSortedBy};
-ghost use Rattle.std.specs.Ordering.{is_lt};
 ghost use Rattle.frs_base.specs.Identifiers.{database_of};
 ghost use Rattle.record_db.specs.Records.{Covered, Versions};
 ghost use Rattle.world_model.specs.Events.{sends_vector};
 ghost use Rattle.world_model.specs.Rounds.{IsWanted};
-ghost use Rattle.script_engine.specs.Pulls.{uncovered, version_lt};
+ghost use Rattle.pinned_pages.specs.Pages.{IsPage};
+ghost use Rattle.script_engine.specs.Pulls.{unknown};
 ghost use Rattle.script_engine.specs.Scene.{Scene, in_world};
 
 use super::Engine;
@@ -18,7 +17,6 @@ use frs_base::{Bytes, Guid, List};
 use name_rules::is_file;
 use pinned_pages::{Body, FileAnswer, Pinned};
 use std::alloc::{AllocError, Global};
-use std::cmp::Ordering;
 use version_vector::{GrowingVector, Vector};
 use win_order::Update;
 
@@ -47,47 +45,17 @@ fn form_of(body: Option<Body>) -> Option<Bytes>
     Some(body.into_form())
 }
 
-/// Compares two updates by their versions.
-fn by_version(a: &Update, b: &Update) -> Ordering
-    ensures { is_lt result ≡ version_lt a.now b.now }
-{
-    if a.gvsn < b.gvsn {
-        Ordering::Less
-    } else if b.gvsn < a.gvsn {
-        Ordering::Greater
-    } else {
-        Ordering::Equal
-    }
-}
-
-/// Those whose versions a vector doesn't cover.
-fn uncovered(
-    alloc: Global,
-    vector: &GrowingVector,
-    records: &[Update],
-) -> Result<Vec<Update>, AllocError>
-    ensures { IfOk result (λ page. page.items ≡ uncovered vector.now.items records.now) }
-{
-    let mut page = Vec::new(alloc);
-    for record in records {
-        if !vector.covers(record.gvsn) {
-            page.push(record.copy()?)?;
-        }
-    }
-    Ok(page)
-}
-
-/// Those whose versions a vector doesn't cover, in order of their versions.
+/// The updates of a pinned state that a vector doesn't cover, in order of their versions.
 fn page_of(
     alloc: Global,
     vector: &GrowingVector,
-    records: &[Update],
+    pinned: &Pinned,
 ) -> Result<Vec<Update>, AllocError>
-    ensures { IfOk result (λ page. IsPermutation (uncovered vector.now.items records.now) page.items × IsSortedBy version_lt page.items) }
+    ensures { IfOk result (λ page. IsPage (unknown pinned.now.vector vector.now.items) pinned.now.records page.items) }
 {
-    let mut page = uncovered(alloc, vector, records)?;
-    page.sort_unstable_by(|a, b| by_version(a, b));
-    Ok(page)
+    let own = vector.copy(alloc)?;
+    let asked = pinned.vector.minus(alloc, &own)?;
+    pinned.page(alloc, &asked)
 }
 
 impl Engine {
@@ -325,11 +293,7 @@ impl Engine {
         let server = self.database(from);
         let pinned = self.ask(alloc, from)?;
         let entry = pinned.at;
-        let page = page_of(
-            alloc,
-            self.folder(at).book().vector(),
-            pinned.records.as_slice(),
-        )?;
+        let page = page_of(alloc, self.folder(at).book().vector(), &pinned)?;
         let paged = match self.take_pages(alloc, at, server, entry, &page)? {
             Ok(paged) => paged,
             Err(refusal) => return Ok(Err(refusal)),
