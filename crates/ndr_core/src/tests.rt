@@ -59,9 +59,8 @@ const ITEMS: [u8; 90] = [
 /// The UUID of the interface FrsTransport.
 const FRS_TRANSPORT: u128 = 0x897e2e5f_93f3_4376_9c9c_fd2277495c27;
 
-fn write_items(alloc: Global) -> Result<Vec<u8>, AllocError> {
+fn put_numbers(out: &mut Writer) -> Result<(), AllocError> {
     let id = Guid::of_number(FRS_TRANSPORT);
-    let mut out = Writer::with_capacity(alloc, 8)?;
     out.put_u8(0x01)?;
     out.put_u16(0x0203)?;
     out.put_u32(0x0405_0607)?;
@@ -70,7 +69,10 @@ fn write_items(alloc: Global) -> Result<Vec<u8>, AllocError> {
     out.put_handle(ContextHandle {
         attributes: 0x10,
         id,
-    })?;
+    })
+}
+
+fn put_arrays(out: &mut Writer) -> Result<(), AllocError> {
     out.reserve(32)?;
     out.put_conformant(3)?;
     out.put_varying(2)?;
@@ -79,19 +81,19 @@ fn write_items(alloc: Global) -> Result<Vec<u8>, AllocError> {
     out.put_reserved(2)?;
     out.put_array(&[0x13])?;
     out.align(8)?;
-    out.put_bytes(&[0x14, 0x15])?;
-    Ok(out.into_vec())
+    out.put_bytes(&[0x14, 0x15])
 }
 
 #[test]
 fn items_are_written(rt: HostRuntime) -> Result<(), Fail> {
-    let bytes = write_items(rt.alloc())?;
-    assert!(rt; bytes.as_slice() == ITEMS.as_slice());
+    let mut out = Writer::with_capacity(rt.alloc(), 8)?;
+    assert!(rt; put_numbers(&mut out).is_ok());
+    assert!(rt; put_arrays(&mut out).is_ok());
+    assert!(rt; out.into_vec().as_slice() == ITEMS.as_slice());
     Ok(())
 }
 
-fn read_items(rt: &impl Abort, alloc: Global) -> Result<(), NdrError> {
-    let mut r = Reader::new(&ITEMS);
+fn take_numbers(rt: &impl Abort, r: &mut Reader) -> Result<(), NdrBad> {
     assert_eq!(rt; r.take_u8()?, 0x01);
     assert_eq!(rt; r.take_u16()?, 0x0203);
     assert_eq!(rt; r.take_u32()?, 0x0405_0607);
@@ -100,24 +102,37 @@ fn read_items(rt: &impl Abort, alloc: Global) -> Result<(), NdrError> {
     let handle = r.take_handle()?;
     assert_eq!(rt; handle.attributes, 0x10);
     assert_eq!(rt; handle.id.number(), FRS_TRANSPORT);
-    assert_eq!(rt; r.take_conformant(3)?, 3);
-    assert_eq!(rt; r.take_varying(2)?, 2);
-    assert!(rt; r.take_unique()?);
-    let text = r.take_string(alloc, 2)?;
-    assert!(rt; text.as_slice() == [0x78].as_slice());
-    r.take_reserved(2)?;
-    assert_eq!(rt; r.take_array::<1>()?, [0x13]);
-    r.align(8)?;
-    let last = r.take_bytes(alloc, 2)?;
-    assert!(rt; last.as_slice() == [0x14, 0x15].as_slice());
-    assert!(rt; r.is_done());
     Ok(())
 }
 
-#[test]
-fn items_are_read(rt: HostRuntime) -> Result<(), Fail> {
-    read_items(&rt, rt.alloc())?;
+fn take_counts(rt: &impl Abort, r: &mut Reader) -> Result<(), NdrBad> {
+    assert_eq!(rt; r.take_conformant(3)?, 3);
+    assert_eq!(rt; r.take_varying(2)?, 2);
+    assert!(rt; r.take_unique()?);
     Ok(())
+}
+
+fn take_last(rt: &impl Abort, r: &mut Reader) -> Result<(), NdrBad> {
+    r.take_reserved(2)?;
+    assert_eq!(rt; r.take_array::<1>()?, [0x13]);
+    r.align(8)
+}
+
+#[test]
+fn items_are_read(rt: HostRuntime) {
+    let mut r = Reader::new(&ITEMS);
+    assert_eq!(rt; take_numbers(&rt, &mut r), Ok(()));
+    assert_eq!(rt; take_counts(&rt, &mut r), Ok(()));
+    match r.take_string(rt.alloc(), 2) {
+        Ok(text) => assert!(rt; text.as_slice() == [0x78].as_slice()),
+        Err(_) => assert!(rt; false),
+    }
+    assert_eq!(rt; take_last(&rt, &mut r), Ok(()));
+    match r.take_bytes(rt.alloc(), 2) {
+        Ok(last) => assert!(rt; last.as_slice() == [0x14, 0x15].as_slice()),
+        Err(_) => assert!(rt; false),
+    }
+    assert!(rt; r.is_done());
 }
 
 #[test]
