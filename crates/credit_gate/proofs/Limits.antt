@@ -61,20 +61,22 @@ few (suc n) (p ∷ ps) once none =
     let places : List ℕ = p ∷ ps in
     elim (cases_eq (times n places) 0) [
       | inl gone ↦
-          omega
-          (arith, few n places once (λ i le.
-            elim (cases_eq i n) [
-              | inl same ↦ subst (λ (m : ℕ). times m places ≡ 0) (sym same) gone
-              | inr other ↦ none i (omega (arith, le, other))
-            ]))
+          omega (
+            arith,
+            few n places once (λ i le.
+                elim (cases_eq i n) [
+                  | inl same ↦ subst (λ (m : ℕ). times m places ≡ 0) (sym same) gone
+                  | inr other ↦ none i (omega (arith, le, other))
+                ]),
+          )
       | inr some ↦
           let has : 0 < times n places = omega (arith, some) in
           let fewer : List ℕ = without n places in
           let rest = few n fewer (λ i. omega (arith, once i, times_without i n places has)) (λ i le.
-            elim (cases_eq i n) [
-              | inl same ↦ subst (λ (m : ℕ). times m fewer ≡ 0) (sym same) (omega (arith, once n, times_without n n places has, one_at n n refl))
-              | inr other ↦ omega (arith, times_without i n places has, none i (omega (arith, le, other)))
-            ]) in
+          elim (cases_eq i n) [
+            | inl same ↦ subst (λ (m : ℕ). times m fewer ≡ 0) (sym same) (omega (arith, once n, times_without n n places has, one_at n n refl))
+            | inr other ↦ omega (arith, times_without i n places has, none i (omega (arith, le, other)))
+          ]) in
           omega (arith, rest, without_length n places has)
     ]
 

@@ -42,7 +42,7 @@ pub fn wire_main<S: Source, K: Sink>(
         WritesSome bytes (K.taken out.old) (K.taken out.new)) }
     ensures short_of_memory { (result ≡ Status.Memory) → IfSome (S.left input.old) (λ bytes.
         (K.taken out.new ≡ K.taken out.old)
-            ⊎ WritesSome bytes (K.taken out.old) (K.taken out.new)) }
+        ⊎ WritesSome bytes (K.taken out.old) (K.taken out.new)) }
 
     // The causes of the other answers, after which nothing was written.
     ensures read_fault { result ≡ Status.ReadFault

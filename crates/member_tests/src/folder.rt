@@ -250,10 +250,7 @@ fn text_of(alloc: Global, reply: &Reply) -> Result<String, Fail> {
         Reply::Skipped(usn) => format!(in alloc; "skipped {usn}")?,
         Reply::Nothing => String::from_str(alloc, "nothing")?,
         Reply::Sent(pinned) => {
-            let (parts, records) = (
-                pinned.vector.intervals().len(),
-                pinned.records.len(),
-            );
+            let (parts, records) = (pinned.vector.intervals().len(), pinned.records.len());
             let at = pinned.at;
             format!(in alloc; "sent {parts} of {records} at {at}")?
         }
@@ -343,12 +340,14 @@ fn is_gone(alloc: Global, folder: &Folder, uid: &Uid) -> Result<bool, Fail> {
     let [record] = records.as_slice() else {
         return Ok(false);
     };
-    Ok(!record.present
-        && record.uid == *uid
-        && record.is_directory()
-        && record.fence == 2
-        && record.clock == 12
-        && record.created == 10)
+    Ok(
+        !record.present
+            && record.uid == *uid
+            && record.is_directory()
+            && record.fence == 2
+            && record.clock == 12
+            && record.created == 10,
+    )
 }
 
 /// Makes a directory, moves it and removes it.

@@ -29,9 +29,9 @@ in_all P (v ∷ us) u a (inr h) = in_all P us u a.1 h
 joined_up : (us vs : List Update) → IsByVersion us → IsByVersion vs → ((u v : Update) → In u us → In v vs → gvsn_lt u.gvsn v.gvsn ≡ true) → IsByVersion (us ++ vs)
 joined_up [] vs up more low = more
 joined_up (u ∷ us) vs up more low = (
-    all_of (λ v. gvsn_lt u.gvsn v.gvsn ≡ true) (us ++ vs) (λ v h. elim (in_append v us vs h) [ inl k ↦ in_all (λ v. gvsn_lt u.gvsn v.gvsn ≡ true) us v up.0 k | inr k ↦ low u v (inl refl) k ]),
-    joined_up us vs up.1 more (λ a b h k. low a b (inr h) k),
-  )
+  all_of (λ v. gvsn_lt u.gvsn v.gvsn ≡ true) (us ++ vs) (λ v h. elim (in_append v us vs h) [ inl k ↦ in_all (λ v. gvsn_lt u.gvsn v.gvsn ≡ true) us v up.0 k | inr k ↦ low u v (inl refl) k ]),
+  joined_up us vs up.1 more (λ a b h k. low a b (inr h) k),
+)
 
 -- two pages, one after the other
 page_joined : (one two both : Versions) (records us vs : List Update) → IsPage one records us → IsPage two records vs
@@ -79,9 +79,9 @@ first_kept i records r first within = (first.0, within, λ u h at. first.2 u h (
 -- the first from the interval's low end on is behind it
 pub first_past : (i : Interval) (records : List Update) (r : Update) → IsFirstFrom (record { db = i.db; version = i.low }) records (Some r) → inside i r.gvsn ≡ false → IsFirstWithin i records None
 first_past i records r first outside u h at = elim (first.2 u h (from i u.gvsn at)) [
-    | inl s ↦ absurd (let t : inside i r.gvsn ≡ true = subst (λ (v : Update). inside i v.gvsn ≡ true) s at in cc)
-    | inr up ↦ between i r.gvsn u.gvsn first.1 outside up at
-  ]
+  | inl s ↦ absurd (let t : inside i r.gvsn ≡ true = subst (λ (v : Update). inside i v.gvsn ≡ true) s at in cc)
+  | inr up ↦ between i r.gvsn u.gvsn first.1 outside up at
+]
   where
     from : (i : Interval) (g : Gvsn) → inside i g ≡ true → gvsn_lt g (record { db = i.db; version = i.low }) ≡ false
     from i g at = grind (arith, nat_tests)
@@ -116,9 +116,9 @@ page_grows i low records page r from p first = record {
   whole = λ u h asked. elim (parts i low u.gvsn r.gvsn asked) [
     | inl t ↦ in_before u page (r ∷ []) (p.whole u h t)
     | inr t ↦ elim (first.2 u h t) [
-        | inl s ↦ in_after u page (r ∷ []) (inl s)
-        | inr up ↦ absurd (past i u.gvsn r.gvsn asked up first.1)
-      ]
+      | inl s ↦ in_after u page (r ∷ []) (inl s)
+      | inr up ↦ absurd (past i u.gvsn r.gvsn asked up first.1)
+    ]
   ];
 }
   where
@@ -174,9 +174,9 @@ below_next i j g h low a b = grind (arith, nat_tests)
 covered_below : (pre : List Interval) (i : Interval) (g h : Gvsn) → IsCanonical (pre ++ i ∷ []) → covers pre g ≡ true → inside i h ≡ true → gvsn_lt g h ≡ true
 covered_below [] i g h form at within = absurd (cc)
 covered_below (j ∷ pre) i g h form at within = elim (or_cases (inside j g) (covers pre g) at) [
-    | inl t ↦ below_next j i g h (before_end j i pre form) t within
-    | inr t ↦ covered_below pre i g h (tail_form j (pre ++ i ∷ []) form) t within
-  ]
+  | inl t ↦ below_next j i g h (before_end j i pre form) t within
+  | inr t ↦ covered_below pre i g h (tail_form j (pre ++ i ∷ []) form) t within
+]
 
 or_false : (b : Bool) → (b || false) ≡ b
 or_false true = refl

@@ -302,10 +302,14 @@ first_value g (e ∷ es) under up = by (is_le (gvsn_cmp g e.0)) refl (find (is_f
     by : (b : Bool) → is_le (gvsn_cmp g e.0) ≡ b → (rest : Option (Gvsn × Update)) → IsFirstFrom g (values_of es) (option_map (λ e. e.1) rest) → IsFirstFrom g (e.1 ∷ values_of es) (option_map (λ e. e.1) (cond b (Some e) rest))
     by true t rest first = (inl refl, high t, λ u h from. least u h)
     by false t None first = λ u h. elim h [ inl s ↦ subst (λ (v : Update). gvsn_lt v.gvsn g ≡ true) (sym s) (low t) | inr h ↦ first u h ]
-    by false t (Some r) first = (inr first.0, first.1, λ u h from. elim h [
-      | inl s ↦ absurd (let below : gvsn_lt u.gvsn g ≡ true = subst (λ (v : Update). gvsn_lt v.gvsn g ≡ true) (sym s) (low t) in cc)
-      | inr h ↦ first.2 u h from
-    ])
+    by false t (Some r) first = (
+      inr first.0,
+      first.1,
+      λ u h from. elim h [
+        | inl s ↦ absurd (let below : gvsn_lt u.gvsn g ≡ true = subst (λ (v : Update). gvsn_lt v.gvsn g ≡ true) (sym s) (low t) in cc)
+        | inr h ↦ first.2 u h from
+      ],
+    )
 
 -- the same of lists with the same updates
 first_same : (g : Gvsn) (a b : List Update) (r : Option Update) → ((u : Update) → In u a → In u b) → ((u : Update) → In u b → In u a) → IsFirstFrom g a r → IsFirstFrom g b r

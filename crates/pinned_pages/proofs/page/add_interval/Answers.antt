@@ -21,10 +21,10 @@ loop-update-preserved c =
       high = before.high;
       low = let from = low_end rest r.gvsn c.in-Some.ensures.first.1 in omega (arith, from, before.low);
       added = (
-          added ++ r ∷ [],
-          c.in_ok-push.ensures.items ∙ ap (λ u. c.loop-update.page.items ++ u ∷ []) c.in_ok-copy.ensures ∙ ap (λ l. l ++ r ∷ []) same ∙ append_assoc c.args.page.now.items added (r ∷ []),
-          page_grows i rest.low records added r before.low page first,
-        );
+        added ++ r ∷ [],
+        c.in_ok-push.ensures.items ∙ ap (λ u. c.loop-update.page.items ++ u ∷ []) c.in_ok-copy.ensures ∙ ap (λ l. l ++ r ∷ []) same ∙ append_assoc c.args.page.now.items added (r ∷ []),
+        page_grows i rest.low records added r before.low page first,
+      );
     }
 
 pub returns : goal.returns

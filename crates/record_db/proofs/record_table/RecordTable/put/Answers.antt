@@ -51,7 +51,7 @@ returns c =
     let files = c.self.inside.files.entries in
     let put = c.put.ensures.put ∙ (λ i. insert_entry uid_cmp c.match-get.self-inside.files.entries (uid i) (value i)) in
     let here = elim c.match-get.branch as (λ _. c.match-get.self-inside.files.entries ≡ files) [
-        | in-Some w ↦ ap (λ s. s.files.entries) w.self-inside-is
-        | in_default w ↦ ap (λ s. s.files.entries) w.self-inside-is
-      ] in
+      | in-Some w ↦ ap (λ s. s.files.entries) w.self-inside-is
+      | in_default w ↦ ap (λ s. s.files.entries) w.self-inside-is
+    ] in
     ap values_of (put ∙ ap (λ l. insert_entry uid_cmp l u.uid u) here) ∙ values_put u files c.self.invariant.by_file ∙ ap (put_record u) (ap (λ s. s.items) c.self.view_is)
