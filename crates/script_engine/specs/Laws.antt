@@ -7,7 +7,8 @@ use Rattle.win_order.specs.declared.update.Update.{Update}
 use Rattle.world_model.specs.Events.{sends_vector}
 use Rattle.world_model.specs.Rounds.{IsPage, IsRound, Round}
 use Rattle.world_model.specs.World.{World}
-use Rattle.script_engine.specs.Pulling.{IsAsked, IsByVersion, Pulls}
+use Rattle.pinned_pages.specs.Pages.{IsByVersion}
+use Rattle.script_engine.specs.Pulling.{IsAsked, Pulls}
 use Rattle.script_engine.specs.Trees.{IsTreeOf, Row}
 
 -- maps have one tree
