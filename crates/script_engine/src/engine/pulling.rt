@@ -55,7 +55,8 @@ fn page_of(
 {
     let own = vector.copy(alloc)?;
     let asked = pinned.vector.minus(alloc, &own)?;
-    pinned.page(alloc, &asked)
+    let page = pinned.page(alloc, &asked)?;
+    Ok(page)
 }
 
 impl Engine {
