@@ -38,19 +38,19 @@ grown() {
     }'
 }
 
-# the least processor time of five runs, in milliseconds
+# the least processor time of five runs, in microseconds
 measured() {
     python3 - "$dfsr" "$1" "$work/out" <<'EOF'
-import os, subprocess, sys
+import resource, subprocess, sys
 program, script, out = sys.argv[1:]
 times = []
 for _ in range(5):
     with open(script) as given, open(out, "w") as taken:
-        before = os.times()
+        before = resource.getrusage(resource.RUSAGE_CHILDREN)
         subprocess.run([program, "script"], stdin=given, stdout=taken, check=True)
-        after = os.times()
-        times.append(after.children_user + after.children_system - before.children_user - before.children_system)
-print(round(min(times) * 1000))
+        after = resource.getrusage(resource.RUSAGE_CHILDREN)
+        times.append(after.ru_utime + after.ru_stime - before.ru_utime - before.ru_stime)
+print(round(min(times) * 1000000))
 EOF
 }
 
@@ -59,7 +59,7 @@ for count in 1000 4000 16000 32750; do
     alone=$(measured "$work/script")
     echo 'pull b a' >>"$work/script"
     pulled=$(measured "$work/script")
-    echo "$count directories and files in turn: $pulled ms, the pull $((pulled - alone)) ms"
+    echo "$count directories and files in turn: $((pulled / 1000)) ms, the pull $(((pulled - alone) / 1000)) ms"
     tail -n 1 "$work/out"
 done
 for count in 1000 10000 100000; do
@@ -67,6 +67,6 @@ for count in 1000 10000 100000; do
     each=$(measured "$work/script")
     grown $count '' >"$work/script"
     once=$(measured "$work/script")
-    echo "10 new files beside $count records: a pull takes $(((each - once) * 1000 / rounds)) us"
+    echo "10 new files beside $count records: a pull takes $(((each - once) / rounds)) us"
     tail -n 1 "$work/out"
 done
