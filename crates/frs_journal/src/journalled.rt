@@ -238,6 +238,8 @@ impl<M: Machine, D: FrsDisk> Journalled<M, D> {
             (Loads M.law (M.state self.new.machine) self.new.serial) self.new) }
         ensures open_still { OnOk result (self.new.shut ≡ false) }
         ensures shut { OnErr result (self.new.shut ≡ true) }
+        ensures kept { OnErr result ((self.new.machine ≡ self.old.machine)
+            × (self.new.end ≡ self.old.end) × (self.new.serial ≡ self.old.serial)) }
         ensures alarm { OnOk result
             (Passes 4 (D.alarm self.old.current) (D.alarm self.new.current)) }
         ensures stops { OnErr result (StopsWithin D.states D.alarm
@@ -282,6 +284,8 @@ impl<M: Machine, D: FrsDisk> Journalled<M, D> {
             (D.alarm self.old.current).faults (D.alarm self.new.current).faults) }
         ensures was_shut { self.old.shut ≡ true → result ≡ Err ApplyFault.Shut }
         ensures shut { IfErr result (λ e. IsDiskFault e → self.new.shut ≡ true) }
+        ensures kept { OnErr result ((M.state self.new.machine ≡ M.state self.old.machine)
+            × (self.new.end ≡ self.old.end) × (self.new.serial ≡ self.old.serial)) }
         ensures alarm { OnOk result
             (Passes 4 (D.alarm self.old.current) (D.alarm self.new.current)) }
         ensures stops { IfErr result (λ e. IsDiskFault e → StopsWithin D.states D.alarm
