@@ -1,16 +1,15 @@
 -- Counts and arrays keep the laws.
-use Rattle.std.proofs.Common.{◌≡◌, ℕ, zero, suc, ◌+◌, ◌-◌, ◌%◌, ◌^◌, ◌<◌, ◌≤◌, Bool, true, false, cond, not, ◌||◌, eqb, eq-eqb, ltb, List, [], ◌∷◌, ◌++◌, length, take, drop, Result, Ok, Err, refl, sym, ap, subst, ◌∙◌, append_assoc, arith, inl, inr, lit<}
+use Rattle.std.proofs.Common.{◌≡◌, ℕ, zero, suc, ◌+◌, ◌^◌, ◌<◌, ◌≤◌, false, cond, not, ◌||◌, eqb, ltb, List, [], ◌∷◌, ◌++◌, length, Ok, Err, refl, sym, ap, subst, ◌∙◌, append_assoc, arith, lit<}
 use Rattle.std.specs.Int.{w32}
 use Rattle.std.specs.List.{AllByRecursion}
 use Rattle.std.proofs.lemmas.Bool.{eqb-true, ltb-false, le-ltb, not-false}
-use Rattle.std.proofs.lemmas.List.{take_at, drop_at, take-append-drop, length-append, length-take, length-drop, get_or-drop, get_or-take, get_or_past, drop-drop, append-nil}
-use Rattle.ndr_core.specs.declared.refusal.NdrBad.{NdrBad}
-use Rattle.ndr_core.specs.declared.refusal.NdrBad.TheVariants.{Count, Short, Value}
+use Rattle.std.proofs.lemmas.List.{length-append, append-nil}
+use Rattle.ndr_core.specs.declared.refusal.NdrBad.TheVariants.{Count}
 use Rattle.ndr_core.specs.Cursor.{Cursor}
 use Rattle.ndr_core.specs.Items.{◌>>=◌, Item, AreBytes, number, padding, together}
 use Rattle.ndr_core.specs.Arrays.{SpellsMany, appends_many, conformant, many, reads_many, span, varying}
-use Rattle.ndr_core.specs.Laws.{GrowAlike, IsLawful, Took, Wrote}
-use Rattle.ndr_core.proofs.Steps.{bind_ok, guard_ok, or_false, good_ok, done, ok_is, alike_length, alike_on, AreBytes-drop, AreBytes-take}
+use Rattle.ndr_core.specs.Laws.{GrowAlike, IsLawful, Took}
+use Rattle.ndr_core.proofs.Steps.{bind_ok, guard_ok, or_false, done, ok_is, alike_length, alike_on}
 use Rattle.ndr_core.proofs.Bytes.{number_32_lawful}
 use Rattle.ndr_core.proofs.Words.{◌⊗◌, lawful_together}
 

@@ -1,15 +1,14 @@
 -- Bytes, reserved bytes, padding and numbers keep the laws.
-use Rattle.std.proofs.Common.{◌≡◌, ℕ, zero, suc, ◌+◌, ◌-◌, ◌%◌, ◌^◌, ◌<◌, ◌≤◌, Bool, true, false, cond, eqb, eq-eqb, ltb, List, [], ◌∷◌, ◌++◌, length, take, drop, Result, Ok, Err, refl, sym, ap, subst, ◌∙◌, append_assoc, arith, inl, inr, lit<}
+use Rattle.std.proofs.Common.{◌≡◌, ℕ, zero, suc, ◌+◌, ◌%◌, ◌^◌, ◌<◌, ◌≤◌, false, ltb, List, [], ◌∷◌, ◌++◌, length, take, drop, Ok, refl, sym, ap, subst, ◌∙◌, append_assoc, arith, lit<}
 use Rattle.std.specs.Int.{Width, w8, w16, w32, w64, byte_at, byte_len, bytes_low_first, from_le_bytes, to_le_bytes}
-use Rattle.std.proofs.lemmas.Bool.{cases_lt, eqb-true, ltb-false, le-ltb}
-use Rattle.std.proofs.lemmas.List.{take_at, drop_at, take-append-drop, length-append, length-take, length-drop, get_or-drop, get_or-take, get_or_past, drop-drop, append-nil}
+use Rattle.std.proofs.lemmas.Bool.{ltb-false, le-ltb}
+use Rattle.std.proofs.lemmas.List.{take_at, drop_at, take-append-drop, length-append, length-take, length-drop, drop-drop}
 use Rattle.std.proofs.lemmas.Nat.{le_bytes_2, le_bytes_4, le_bytes_8, from_le_bytes-to_le_bytes_2, from_le_bytes-to_le_bytes_4, from_le_bytes-to_le_bytes_8}
-use Rattle.ndr_core.specs.declared.refusal.NdrBad.{NdrBad}
-use Rattle.ndr_core.specs.declared.refusal.NdrBad.TheVariants.{Count, Short, Value}
+use Rattle.ndr_core.specs.declared.refusal.NdrBad.TheVariants.{Short}
 use Rattle.ndr_core.specs.Cursor.{Cursor}
 use Rattle.ndr_core.specs.Items.{AreBytes, bytes_of, chunk, number, number_at, padded, padding, skip, zeros}
 use Rattle.ndr_core.specs.Laws.{GrowAlike, IsLawful, Took, Wrote}
-use Rattle.ndr_core.proofs.Steps.{bind_ok, guard_ok, good_ok, done, ok_is, AreBytes-drop, AreBytes-take}
+use Rattle.ndr_core.proofs.Steps.{guard_ok, AreBytes-drop, AreBytes-take}
 use Rattle.ndr_core.proofs.Words.{seen_lawful}
 
 abbrev pub HasBytes : ℕ → List ℕ → Type 0

@@ -1,6 +1,5 @@
 -- The spellings of one value differ only in bytes that may be others.
-use Rattle.std.proofs.Common.{◌≡◌, ◌∙◌, ℕ, zero, suc, ◌+◌, ◌-◌, ◌<◌, ◌≤◌, Bool, not, true, false, eqb, List, [], ◌∷◌, ◌++◌, Option, Some, None, get_or, length, set, refl, sym, ap, subst, arith, inl, inr, length-append}
-use Rattle.std.specs.Prelude.{◌⊎◌}
+use Rattle.std.proofs.Common.{◌≡◌, ◌∙◌, ℕ, zero, suc, ◌+◌, ◌-◌, ◌<◌, Bool, not, true, false, eqb, List, [], ◌∷◌, ◌++◌, Some, get_or, length, set, refl, sym, ap, subst, arith, inl, inr, length-append}
 use Rattle.std.specs.Int.{Width, byte_len, from_be_bytes, from_le_bytes, to_be_bytes, to_le_bytes, w16, w32, w128}
 use Rattle.std.proofs.lemmas.Bool.{cases_eq, cases_lt, eqb-true, ne_eqb, not-false}
 use Rattle.std.proofs.lemmas.List.{get_or-append_right, get_or-set_other, get_or-set_same, get_or_append_left, get_or_past, length-set, set-append_left, set-append_right}

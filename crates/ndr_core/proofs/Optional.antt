@@ -1,10 +1,10 @@
 -- Pointers and what they point to keep the laws.
-use Rattle.std.proofs.Common.{◌≡◌, ℕ, ◌+◌, ◌^◌, ◌<◌, Bool, not, true, false, eqb, List, [], ◌∷◌, ◌++◌, Option, Some, None, Result, Ok, Err, refl, sym, ap, subst, ◌∙◌, length, length-append, arith, lit<}
+use Rattle.std.proofs.Common.{◌≡◌, ℕ, ◌+◌, ◌^◌, ◌<◌, Bool, not, true, false, eqb, List, [], ◌++◌, Option, Some, None, Ok, refl, sym, ap, subst, ◌∙◌, length, arith, lit<}
 use Rattle.std.specs.Prelude.{IfSome}
-use Rattle.std.specs.Int.{to_le_bytes, w32}
+use Rattle.std.specs.Int.{w32}
 use Rattle.std.proofs.lemmas.List.{append-nil}
 use Rattle.ndr_core.specs.Cursor.{Cursor}
-use Rattle.ndr_core.specs.Items.{◌>>=◌, AreBytes, Item, followed, number}
+use Rattle.ndr_core.specs.Items.{◌>>=◌, Item, number}
 use Rattle.ndr_core.specs.Laws.{GrowAlike, IsLawful, Took, Wrote}
 use Rattle.ndr_core.specs.Pointers.{append_if, is_some, optional, referent, unique, when}
 use Rattle.ndr_core.proofs.Steps.{bind_ok, done, ok_is}

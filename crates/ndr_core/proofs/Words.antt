@@ -1,13 +1,13 @@
 -- The words that put items together keep the laws.
-use Rattle.std.proofs.Common.{◌≡◌, ℕ, zero, suc, ◌+◌, ◌-◌, ◌%◌, ◌^◌, ◌<◌, ◌≤◌, Bool, true, false, cond, eqb, eq-eqb, ltb, List, [], ◌∷◌, ◌++◌, length, take, drop, Result, Ok, Err, refl, sym, ap, subst, ◌∙◌, append_assoc, arith, inl, inr, lit<}
-use Rattle.std.proofs.lemmas.Bool.{cases_lt, eqb-true, ltb-false, le-ltb}
-use Rattle.std.proofs.lemmas.List.{take_at, drop_at, take-append-drop, length-append, length-take, length-drop, get_or-drop, get_or-take, get_or_past, drop-drop, append-nil}
+use Rattle.std.proofs.Common.{◌≡◌, ℕ, ◌+◌, Bool, true, cond, eqb, eq-eqb, List, ◌++◌, length, Result, Ok, Err, refl, sym, ap, subst, ◌∙◌, append_assoc, arith}
+use Rattle.std.proofs.lemmas.Bool.{eqb-true}
+use Rattle.std.proofs.lemmas.List.{length-append}
 use Rattle.ndr_core.specs.declared.refusal.NdrBad.{NdrBad}
-use Rattle.ndr_core.specs.declared.refusal.NdrBad.TheVariants.{Count, Short, Value}
+use Rattle.ndr_core.specs.declared.refusal.NdrBad.TheVariants.{Value}
 use Rattle.ndr_core.specs.Cursor.{Cursor}
-use Rattle.ndr_core.specs.Items.{◌>>=◌, ◌⨾◌, Item, AreBytes, checked, fixed, followed, padding, seen, short_at, together}
-use Rattle.ndr_core.specs.Laws.{IsLawful, Took, Wrote}
-use Rattle.ndr_core.proofs.Steps.{bind_ok, guard_ok, good_ok, done, ok_is, alike_length, alike_on, AreBytes-drop, AreBytes-take}
+use Rattle.ndr_core.specs.Items.{◌>>=◌, ◌⨾◌, Item, checked, fixed, followed, padding, seen, short_at, together}
+use Rattle.ndr_core.specs.Laws.{IsLawful, Took}
+use Rattle.ndr_core.proofs.Steps.{bind_ok, good_ok, ok_is, alike_length, alike_on}
 
 pub seen_lawful : {A B : Type 0} (to : A → B) (from : B → A) (item : Item A) (Fits : A → Type 0) → IsLawful item Fits → ((at : ℕ) (a : A) (text : List ℕ) → item.Spells at a text → from (to a) ≡ a)
     → IsLawful (seen to from item) (λ b. (to (from b) ≡ b) × Fits (from b))

@@ -24,6 +24,3 @@ pub use reader::Reader;
 pub use refusal::{NdrBad, NdrError};
 pub use wire::{Wire, put_many, take_many};
 pub use writer::Writer;
-
-#[cfg(test)]
-mod tests;

@@ -18,6 +18,3 @@ pub use fragment::Whole;
 pub use laws::{any_cut_gives_the_same, any_cut_of_any_decoder, fragments_give_their_call};
 pub use refusal::{FragBad, FragError, StreamBad, StreamError};
 pub use splitting::Splitter;
-
-#[cfg(test)]
-mod tests;

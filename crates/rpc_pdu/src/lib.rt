@@ -28,6 +28,3 @@ pub use laws::{
 };
 pub use pdu::{Pdu, PduBody};
 pub use refusal::{PduBad, PduError};
-
-#[cfg(test)]
-mod tests;

@@ -1,6 +1,6 @@
 // What no contract says: that memory is found, and bytes written out by hand.
-use super::*;
 use frs_base::Guid;
+use ndr_core::{ContextHandle, NdrBad, NdrError, Reader, Writer};
 use std::alloc::{AllocError, Global};
 use std::process::Abort;
 use std::test::Fail;

@@ -1,5 +1,5 @@
 // What no contract says: that memory is found, and PDUs written out by hand.
-use super::*;
+use rpc_pdu::{Bind, BindAck, BindNak, Fault, Pdu, PduBad, PduBody, PduError, decode, encode};
 use std::alloc::Global;
 use std::process::Abort;
 use std::test::Fail;

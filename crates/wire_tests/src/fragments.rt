@@ -2,8 +2,8 @@
 ghost use Rattle.std.specs.Prelude.{IfOk, IsTrue};
 ghost use Rattle.rpc_frag.specs.Fragments.{IsPart};
 
-use super::*;
 use frs_base::Bytes;
+use rpc_frag::{Assembler, FragBad, FragError, Splitter, Whole, any_cut_of_any_decoder, cut};
 use rpc_pdu::{Pdu, PduBad, PduBody, Request, Response};
 use std::alloc::{AllocError, Global};
 use std::process::Abort;
