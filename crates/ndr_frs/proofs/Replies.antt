@@ -1,8 +1,8 @@
 -- Replies keep the laws.
-use Rattle.std.proofs.Common.{◌≡◌, ◌∙◌, ℕ, ◌+◌, ◌^◌, ◌<◌, ◌==◌, ◌||◌, true, eqb, List, [], ◌++◌, Option, None, Some, Result, Ok, Err, length, inl, inr, refl, sym, ap, arith}
+use Rattle.std.proofs.Common.{◌≡◌, ◌∙◌, ℕ, ◌+◌, ◌^◌, ◌<◌, ◌==◌, ◌||◌, true, eqb, List, [], ◌++◌, Option, None, Some, Ok, length, inl, inr, refl, sym, ap, arith}
 use Rattle.std.specs.Prelude.{IfSome}
 use Rattle.std.proofs.lemmas.Bool.{eqb-true}
-use Rattle.std.proofs.lemmas.List.{append-nil, nil_from_length}
+use Rattle.std.proofs.lemmas.List.{append-nil}
 use Rattle.version_vector.specs.declared.interval.Interval.{Interval}
 use Rattle.ndr_core.specs.Cursor.{Cursor}
 use Rattle.ndr_core.specs.Items.{AreBytes}
@@ -12,8 +12,6 @@ use Rattle.ndr_core.proofs.Identifiers.{guid_lawful, handle_lawful}
 use Rattle.ndr_core.proofs.Optional.{optional_lawful}
 use Rattle.ndr_core.proofs.Words.{◌⊗◌, lawful_checked, lawful_where}
 use Rattle.ndr_frs.specs.Stubs.{all_of, in_stub}
-use Rattle.ndr_frs.specs.declared.refusal.StubBad.{StubBad}
-use Rattle.ndr_frs.specs.declared.refusal.StubBad.TheVariants as stubs
 use Rattle.ndr_frs.specs.Laws.{RepliesAreExact}
 use Rattle.ndr_frs.specs.Replies.{IsStatedReply, IsReply, IsStatus, IsVector, SpellsReply, as_check, as_close, as_connection, as_data, as_file, as_page, as_poll, as_session, as_vector, check_item, close_item, connection_item, data_item, file_item, page_item, poll_item, reply_appends, reply_number, reply_of, reply_reads, session_item, status_item, vector_item}
 use Rattle.ndr_frs.specs.declared.reply.FrsReply.{FrsReply}
@@ -21,13 +19,7 @@ use Rattle.ndr_frs.specs.declared.reply.FrsReply.TheVariants as forms
 use Rattle.ndr_frs.proofs.OneReply.{replies_alike}
 use Rattle.ndr_frs.proofs.Shared.{IsIntervals, below_lawful, bytes_lawful, intervals_lawful, update_lawful, updates_lawful}
 use Rattle.ndr_frs.proofs.Stated.{reply_stated}
-use Rattle.ndr_frs.proofs.Stubs.{all_done, behind, branch, ended, front_in, judged, spelled_in, start, written_by}
-
-abbrev answer : FrsReply → Result FrsReply StubBad
-answer q = Ok q
-
-refused_twice : (bad : StubBad) (q : FrsReply) → Err bad ≡ answer q → ⊥
-refused_twice bad q e = cc
+use Rattle.ndr_frs.proofs.Stubs.{all_done, begins_in, behind, branch, front_in, none, refused_twice, same, spelled_in, start, written_by}
 
 -- ---- fields of replies alone
 
@@ -111,15 +103,9 @@ only opnum stub q s = ap (reply_of opnum) (sym (append-nil stub)) ∙ ap all_of 
 
 -- with more behind it, it is no spelling
 begins : (opnum : ℕ) (text rest : List ℕ) (q r : FrsReply) → SpellsReply opnum q text → SpellsReply opnum r (text ++ rest) → (q ≡ r) × (rest ≡ [])
-begins opnum text rest q r s t =
-    let both : judged (eqb (length rest) 0) q (0 + length text) ≡ Ok r = sym (ap all_of (front opnum text rest q s)) ∙ only opnum (text ++ rest) r t in
-    let g = ended (eqb (length rest) 0) q r (0 + length text) both in
-    (g.1, nil_from_length rest (eqb-true _ _ g.0))
+begins opnum text rest q r s t = begins_in (reply_reads opnum (start (text ++ rest))) text rest q r (front opnum text rest q s) (only opnum (text ++ rest) r t)
 
 -- ---- what is read is spelled
-
-none : (q : FrsReply) → all_of {A = FrsReply} (Err stubs.Opnum) ≡ Ok q → ⊥
-none q e = cc
 
 pub found : (opnum : ℕ) (stub : List ℕ) (q : FrsReply) → AreBytes stub → reply_of opnum stub ≡ Ok q → SpellsReply opnum q stub
 unfolding reply_reads
@@ -170,9 +156,6 @@ written (forms.AsyncPoll sequence status generation count vector rc) is = (refl,
 written (forms.RawGetFileData maximum bytes size_read is_end rc) is = (refl, written_by data_item _ data_lawful ((maximum, bytes), (size_read, (is_end, rc))) is)
 written (forms.RdcClose handle rc) is = (refl, written_by close_item _ close_lawful (handle, rc) is)
 written (forms.InitializeFileTransferAsync update handle maximum bytes size_read is_end detail rc) is = (refl, written_by file_item _ file_lawful (update, (handle, ((maximum, bytes), (size_read, (is_end, (detail, rc)))))) is)
-
-same : (x y : FrsReply) → answer x ≡ answer y → x ≡ y
-same x y e = cc
 
 pub are_exact : RepliesAreExact
 are_exact = record {

@@ -1,7 +1,7 @@
 -- Requests keep the laws.
-use Rattle.std.proofs.Common.{◌≡◌, ◌∙◌, ℕ, ◌+◌, true, eqb, List, [], ◌++◌, Result, Ok, Err, length, inl, inr, refl, sym, ap, arith}
+use Rattle.std.proofs.Common.{◌≡◌, ◌∙◌, ℕ, ◌+◌, true, eqb, List, [], ◌++◌, Ok, length, inl, inr, refl, sym, ap, arith}
 use Rattle.std.proofs.lemmas.Bool.{eqb-true}
-use Rattle.std.proofs.lemmas.List.{append-nil, nil_from_length}
+use Rattle.std.proofs.lemmas.List.{append-nil}
 use Rattle.ndr_core.specs.Cursor.{Cursor}
 use Rattle.ndr_core.specs.Items.{AreBytes}
 use Rattle.ndr_core.specs.Laws.{IsLawful}
@@ -10,8 +10,6 @@ use Rattle.ndr_core.proofs.Bytes.{number_32_lawful, number_64_lawful}
 use Rattle.ndr_core.proofs.Identifiers.{guid_lawful, handle_lawful}
 use Rattle.ndr_core.proofs.Words.{◌⊗◌, lawful_fixed, lawful_then, lawful_where}
 use Rattle.ndr_frs.specs.Stubs.{all_of, in_stub}
-use Rattle.ndr_frs.specs.declared.refusal.StubBad.{StubBad}
-use Rattle.ndr_frs.specs.declared.refusal.StubBad.TheVariants as stubs
 use Rattle.ndr_frs.specs.Laws.{RequestsAreExact}
 use Rattle.ndr_frs.specs.Requests.{IsStatedRequest, IsRequest, SpellsRequest, as_check, as_close, as_connection, as_data, as_file, as_page, as_poll, as_session, as_vector, check_item, close_item, connection_item, data_item, file_item, page_item, poll_item, request_appends, request_number, request_of, request_reads, session_item, vector_item}
 use Rattle.ndr_frs.specs.declared.request.FrsRequest.{FrsRequest}
@@ -19,13 +17,7 @@ use Rattle.ndr_frs.specs.declared.request.FrsRequest.TheVariants as forms
 use Rattle.ndr_frs.proofs.OneRequest.{requests_alike}
 use Rattle.ndr_frs.proofs.Shared.{below_lawful, interval_lawful, update_lawful}
 use Rattle.ndr_frs.proofs.Stated.{request_stated}
-use Rattle.ndr_frs.proofs.Stubs.{all_done, behind, branch, ended, front_in, judged, spelled_in, start, written_by}
-
-abbrev answer : FrsRequest → Result FrsRequest StubBad
-answer q = Ok q
-
-refused_twice : (bad : StubBad) (q : FrsRequest) → Err bad ≡ answer q → ⊥
-refused_twice bad q e = cc
+use Rattle.ndr_frs.proofs.Stubs.{all_done, begins_in, behind, branch, front_in, none, refused_twice, same, spelled_in, start, written_by}
 
 -- ---- the layout of each keeps the laws of items
 
@@ -85,15 +77,9 @@ only opnum stub q s = ap (request_of opnum) (sym (append-nil stub)) ∙ ap all_o
 
 -- with more behind it, it is no spelling
 begins : (opnum : ℕ) (text rest : List ℕ) (q r : FrsRequest) → SpellsRequest opnum q text → SpellsRequest opnum r (text ++ rest) → (q ≡ r) × (rest ≡ [])
-begins opnum text rest q r s t =
-    let both : judged (eqb (length rest) 0) q (0 + length text) ≡ Ok r = sym (ap all_of (front opnum text rest q s)) ∙ only opnum (text ++ rest) r t in
-    let g = ended (eqb (length rest) 0) q r (0 + length text) both in
-    (g.1, nil_from_length rest (eqb-true _ _ g.0))
+begins opnum text rest q r s t = begins_in (request_reads opnum (start (text ++ rest))) text rest q r (front opnum text rest q s) (only opnum (text ++ rest) r t)
 
 -- ---- what is read is spelled
-
-none : (q : FrsRequest) → all_of {A = FrsRequest} (Err stubs.Opnum) ≡ Ok q → ⊥
-none q e = cc
 
 pub found : (opnum : ℕ) (stub : List ℕ) (q : FrsRequest) → AreBytes stub → request_of opnum stub ≡ Ok q → SpellsRequest opnum q stub
 unfolding request_reads
@@ -144,9 +130,6 @@ written (forms.AsyncPoll connection) is = (refl, written_by poll_item _ poll_law
 written (forms.RawGetFileData handle buffer_size) is = (refl, written_by data_item _ data_lawful (handle, buffer_size) is)
 written (forms.RdcClose handle) is = (refl, written_by close_item _ close_lawful handle is)
 written (forms.InitializeFileTransferAsync connection update rdc_desired policy buffer_size) is = (refl, written_by file_item _ file_lawful (connection, (update, (rdc_desired, (policy, buffer_size)))) is)
-
-same : (x y : FrsRequest) → answer x ≡ answer y → x ≡ y
-same x y e = cc
 
 pub are_exact : RequestsAreExact
 are_exact = record {

@@ -11,7 +11,7 @@ use Rattle.ndr_core.specs.declared.refusal.NdrBad.TheVariants.{Rest}
 use Rattle.ndr_core.proofs.Steps.{bind_ok, done}
 use Rattle.ndr_frs.specs.Stubs.{all_of, in_stub, made}
 use Rattle.ndr_frs.specs.declared.refusal.StubBad.{StubBad}
-use Rattle.ndr_frs.specs.declared.refusal.StubBad.TheVariants.{Item as OfItem}
+use Rattle.ndr_frs.specs.declared.refusal.StubBad.TheVariants.{Item as OfItem, Opnum}
 
 abbrev pub start : List ℕ → Cursor
 start stub = record { at = 0; rest = stub }
@@ -67,6 +67,28 @@ written_by item Fits is a fits =
 
 abbrev pub judged : {Q : Type 0} → Bool → Q → ℕ → Result Q StubBad
 judged b q at = cond b (Ok q) (Err (OfItem (Rest at)))
+
+-- a text with more behind it is no spelling
+pub begins_in : {Q : Type 0} (read : Result (Q × Cursor) StubBad) (text rest : List ℕ) (q r : Q) → read ≡ Ok (q, behind text rest) → all_of read ≡ Ok r → (q ≡ r) × (rest ≡ [])
+begins_in read text rest q r front whole =
+    let both : judged (eqb (length rest) 0) q (0 + length text) ≡ Ok r = sym (ap all_of front) ∙ whole in
+    let g = ended (eqb (length rest) 0) q r (0 + length text) both in
+    (g.1, nil_from_length rest (eqb-true _ _ g.0))
+
+-- ---- answers
+
+abbrev pub answer : {Q : Type 0} → Q → Result Q StubBad
+answer q = Ok q
+
+pub same : {Q : Type 0} (x y : Q) → answer x ≡ answer y → x ≡ y
+same x y e = cc
+
+pub refused_twice : {Q : Type 0} (bad : StubBad) (q : Q) → Err bad ≡ answer q → ⊥
+refused_twice bad q e = cc
+
+-- no call has the number
+pub none : {Q : Type 0} (q : Q) → all_of {A = Q} (Err Opnum) ≡ answer q → ⊥
+none q e = cc
 
 -- what is read to the end is the whole stub
 pub all_done : {Q : Type 0} (read : Result (Q × Cursor) StubBad) (q : Q) (c : Cursor) → read ≡ Ok (q, c) → eqb (length c.rest) 0 ≡ true → all_of read ≡ Ok q

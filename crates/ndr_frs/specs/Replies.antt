@@ -149,18 +149,6 @@ SpellsReply opnum (forms.InitializeFileTransferAsync update handle maximum bytes
 
 -- ---- values
 
--- updates or versions are listed
-abbrev pub IsListing : FrsReply → Type 0
-IsListing (forms.RequestUpdates maximum updates count status gvsn_db gvsn_version rc) = Unit {0}
-IsListing (forms.AsyncPoll sequence status generation count vector rc) = Unit {0}
-IsListing other = ⊥
-
--- bytes of a file are carried
-abbrev pub IsTransfer : FrsReply → Type 0
-IsTransfer (forms.RawGetFileData maximum bytes size_read is_end rc) = Unit {0}
-IsTransfer (forms.InitializeFileTransferAsync update handle maximum bytes size_read is_end detail rc) = Unit {0}
-IsTransfer other = ⊥
-
 -- a status of a page, or none
 abbrev pub IsStatus : ℕ → Type 0
 IsStatus status = (status ≡ 0) ⊎ ((status ≡ 2) ⊎ (status ≡ 3))
