@@ -27,6 +27,3 @@ pub use reply_writing::write_reply;
 pub use request::FrsRequest;
 pub use request_reading::read_request;
 pub use request_writing::write_request;
-
-#[cfg(test)]
-mod tests;

@@ -20,6 +20,3 @@ pub use errors::RowError;
 pub use laws::one_answer;
 pub use reading::row_of;
 pub use row::WireRow;
-
-#[cfg(test)]
-mod tests;

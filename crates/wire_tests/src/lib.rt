@@ -1,5 +1,6 @@
 //! What no contract says of the crates of the wire, tried: that memory is found, and bytes, PDUs,
-//! fragments and stubs written out by hand.
+//! fragments, stubs and rows written
+//! out by hand.
 //!
 //! The tests stand apart from the crates that they try, so that those are proved once.
 #![tactic(auto)]
@@ -10,3 +11,7 @@ mod fragments;
 mod ndr;
 #[cfg(test)]
 mod pdus;
+#[cfg(test)]
+mod rows;
+#[cfg(test)]
+mod stubs;

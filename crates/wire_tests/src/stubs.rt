@@ -2,9 +2,11 @@
 ghost use Rattle.ndr_frs.specs.Requests.{IsStatedRequest};
 ghost use Rattle.ndr_frs.specs.Replies.{IsStatedReply};
 
-use super::*;
 use frs_base::{Bytes, Guid, Gvsn, List, Name, NameError, Sum, Uid, content_set, database_of};
 use ndr_core::{ContextHandle, NdrBad};
+use ndr_frs::{
+    FrsReply, FrsRequest, StubBad, StubError, read_reply, read_request, write_reply, write_request,
+};
 use std::alloc::Global;
 use std::process::Abort;
 use std::test::Fail;

@@ -1,7 +1,7 @@
 // What no contract says: that memory is found.
-use super::*;
 use std::alloc::Global;
 use std::test::Fail;
+use wire_rows::{RowError, answer, row_of};
 
 /// The answer of a row's text, none where it asks nothing.
 fn answered(alloc: Global, row: &str) -> Result<Option<String>, RowError> {
