@@ -14,6 +14,6 @@ pub mod Sound
 pub mod Standing
 pub mod Replies
 pub mod Engines
-pub mod Histories
 pub mod Pulls
+pub mod Histories
 pub mod Scripts

@@ -66,7 +66,7 @@ impl Engine {
     ghost use Rattle.script_lang.specs.Grammar.{is_member_name};
     ghost use Rattle.script_lang.specs.declared.line.Line.TheVariants.{Pull};
     ghost use Rattle.folder_core.specs.declared.event.Event.TheVariants as Event;
-    ghost use Rattle.script_engine.specs.Histories.{Came, answer_of};
+    ghost use Rattle.script_engine.specs.Histories.{Adopted, Came, Fetches, Pulled, answer_of};
     ghost use Rattle.script_engine.specs.Replies.{file_of, pinned_of, taken_of};
     ghost use Rattle.script_engine.specs.Engines.{HasRoom, HasScene, Stands, made_by_all};
     ghost use Rattle.script_engine.specs.Text.{Does};
@@ -216,6 +216,7 @@ impl Engine {
         ensures err { (s : Scene) → Stands self.old s → ArePages s.world from page.now
             → OnErr result ((w : World) × BeginsPages s.world (database_of (at + 1)) from page.now w × Stands self.new (in_world s w)) }
         ensures few { IfOk result (λ outcome. IfOk outcome (λ paged. paged.taken ≤ length page.now)) }
+        ensures adopted { IfOk result (λ outcome. IfOk outcome (λ paged. Adopted at from entry paged.taken self.old self.new)) }
         ensures made { OnOk result (made_by_all self.new ≡ made_by_all self.old) }
         ensures many { length self.new.folders.items ≡ length self.old.folders.items }
     {
@@ -255,6 +256,7 @@ impl Engine {
         ensures err { (s : Scene) → Stands self.old s → AreCovered s.world (database_of (from + 1)) files.now
             → OnErr result ((w : World) × BeginsFiles s.world (database_of (at + 1)) (database_of (from + 1)) files.now w × Stands self.new (in_world s w)) }
         ensures few { IfOk result (λ outcome. IfOk outcome (λ taken. taken ≤ length files.now)) }
+        ensures fetched { IfOk result (λ outcome. IfOk outcome (λ taken. Fetches at from (database_of (from + 1)) taken self.old self.new)) }
         ensures made { OnOk result (made_by_all self.new ≡ made_by_all self.old) }
         ensures many { length self.new.folders.items ≡ length self.old.folders.items }
     {
@@ -296,6 +298,7 @@ impl Engine {
             → IfOk result (λ outcome. (w : World) × PullEnds s.world (database_of (at + 1)) (database_of (from + 1)) outcome w × Stands self.new (in_world s w)) }
         ensures err { (s : Scene) → Stands self.old s
             → OnErr result ((w : World) × ((w ≡ s.world) ⊎ BeginsPull s.world (database_of (at + 1)) (database_of (from + 1)) w) × Stands self.new (in_world s w)) }
+        ensures pulled { IfOk result (λ outcome. IfOk outcome (λ taken. Pulled at from (database_of (from + 1)) taken self.old self.new)) }
         ensures made { OnOk result (made_by_all self.new ≡ made_by_all self.old) }
     {
         let server = self.database(from);
