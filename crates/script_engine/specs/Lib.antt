@@ -15,4 +15,5 @@ pub mod Standing
 pub mod Replies
 pub mod Engines
 pub mod Pulls
+pub mod Histories
 pub mod Scripts

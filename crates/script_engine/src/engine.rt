@@ -41,6 +41,9 @@ impl Engine {
     ghost use Rattle.script_engine.specs.Text.{Does};
     ghost use Rattle.script_engine.specs.Begun.{Begins, ConsumesSome};
     ghost use Rattle.script_engine.specs.declared.consumed.Consumed.{Consumed};
+    ghost use Rattle.folder_core.specs.declared.event.Event.TheVariants as Event;
+    ghost use Rattle.script_engine.specs.Histories.{Came, Entered};
+    ghost use Rattle.script_engine.specs.Replies.{consumed_of, usn_of};
     ghost use Rattle.script_engine.specs.Engines.{Answered, ConsumedAll, ConsumedNext, HasRoom, HasScene, IsWithin, Operated, Stands, consumed_by_all, count_of, machines_of, made_by_all};
 
     /// An engine without members, which takes no memory.
@@ -102,6 +105,7 @@ impl Engine {
         ensures names { self.new.names ≡ self.old.names }
         ensures many { length self.new.folders.items ≡ length self.old.folders.items }
         ensures ok { IfOk result (λ reply. Answered at event reply self.old self.new) }
+        ensures entered { IfOk result (λ reply. Entered at event reply self.old self.new) }
         ensures err { OnErr result (machines_of self.new ≡ machines_of self.old) }
     {
         self.folders.change(
@@ -130,6 +134,7 @@ impl Engine {
         requires scene { HasScene self.old }
         ensures ok { (s : Scene) → Stands self.old s → IfOk result (λ outcome. (w : World) × Operated s.world (database_of (at + 1)) operation outcome w × Stands self.new (in_world s w)) }
         ensures err { (s : Scene) → Stands self.old s → OnErr result (Stands self.new s) }
+        ensures came { IfOk result (λ outcome. Came at (Event.Local operation) usn_of outcome self.old self.new) }
         ensures made { OnOk result (made_by_all self.new ≤ made_by_all self.old + 1) }
         ensures names { self.new.names ≡ self.old.names }
         ensures many { length self.new.folders.items ≡ length self.old.folders.items }
@@ -154,6 +159,7 @@ impl Engine {
         requires room { made_by_all self.old < 2 ^ 60 }
         ensures ok { (s : Scene) → Stands self.old s → IfOk result (λ outcome. (w : World) × ConsumedNext s.world (database_of (at + 1)) moment outcome w × Stands self.new (in_world s w)) }
         ensures err { (s : Scene) → Stands self.old s → OnErr result (Stands self.new s) }
+        ensures came { IfOk result (λ outcome. Came at (Event.Consume moment) consumed_of outcome self.old self.new) }
         ensures made { OnOk result (made_by_all self.new ≡ made_by_all self.old) }
         ensures more { IfOk result (λ outcome. consumed_by_all self.new ≡ consumed_by_all self.old + count_of outcome) }
         ensures names { self.new.names ≡ self.old.names }

@@ -65,6 +65,9 @@ impl Engine {
     ghost use Rattle.world_model.specs.World.{World};
     ghost use Rattle.script_lang.specs.Grammar.{is_member_name};
     ghost use Rattle.script_lang.specs.declared.line.Line.TheVariants.{Pull};
+    ghost use Rattle.folder_core.specs.declared.event.Event.TheVariants as Event;
+    ghost use Rattle.script_engine.specs.Histories.{Adopted, Came, Fetches, Pulled, answer_of};
+    ghost use Rattle.script_engine.specs.Replies.{file_of, pinned_of, taken_of};
     ghost use Rattle.script_engine.specs.Engines.{HasRoom, HasScene, Stands, made_by_all};
     ghost use Rattle.script_engine.specs.Text.{Does};
     ghost use Rattle.script_engine.specs.Begun.{Begins, BeginsFiles, BeginsPages, BeginsPull};
@@ -76,6 +79,7 @@ impl Engine {
         requires scene { HasScene self.old }
         ensures ok { (s : Scene) → Stands self.old s → IfOk result (λ pinned. IsPinned s.world (database_of (at + 1)) pinned × Stands self.new (in_world s (sends_vector s.world (database_of (at + 1))))) }
         ensures err { (s : Scene) → Stands self.old s → OnErr result (Stands self.new s) }
+        ensures came { IfOk result (λ pinned. Came at Event.Vector pinned_of pinned self.old self.new) }
         ensures made { OnOk result (made_by_all self.new ≡ made_by_all self.old) }
         ensures many { length self.new.folders.items ≡ length self.old.folders.items }
     {
@@ -115,6 +119,7 @@ impl Engine {
         requires room { made_by_all self.old < 2 ^ 60 }
         ensures ok { (s : Scene) → Stands self.old s → CanTake s.world (database_of (at + 1)) from update → IfOk result (λ outcome. (w : World) × Took s.world (database_of (at + 1)) from update outcome w × Stands self.new (in_world s w)) }
         ensures err { (s : Scene) → Stands self.old s → OnErr result (Stands self.new s) }
+        ensures came { IfOk result (λ outcome. Came at (Event.Adopt from entry update form) taken_of outcome self.old self.new) }
         ensures made { OnOk result (made_by_all self.new ≡ made_by_all self.old) }
         ensures many { length self.new.folders.items ≡ length self.old.folders.items }
     {
@@ -144,6 +149,7 @@ impl Engine {
         ensures ok { (s : Scene) → Stands self.old s → Covered s.world.all (s.world.at (database_of (at + 1))).known update.now
             → IfOk result (λ outcome. FetchedFrom s.world (database_of (at + 1)) update.now.uid outcome × Stands self.new s) }
         ensures err { (s : Scene) → Stands self.old s → OnErr result (Stands self.new s) }
+        ensures came { IfOk result (λ outcome. Came at (Event.File update.now.uid) file_of (answer_of outcome) self.old self.new) }
         ensures made { OnOk result (made_by_all self.new ≡ made_by_all self.old) }
         ensures many { length self.new.folders.items ≡ length self.old.folders.items }
     {
@@ -176,6 +182,7 @@ impl Engine {
         ensures ok { (s : Scene) (versions : Versions) → Stands self.old s → MayFinish s.world (database_of (at + 1)) versions sent seen
             → IfOk result (λ outcome. (w : World) × Ended s.world (database_of (at + 1)) versions outcome w × Stands self.new (in_world s w)) }
         ensures err { (s : Scene) → Stands self.old s → OnErr result (Stands self.new s) }
+        ensures came { IfOk result (λ outcome. Came at (Event.Finish from entry sent seen) taken_of outcome self.old self.new) }
         ensures made { OnOk result (made_by_all self.new ≡ made_by_all self.old) }
     {
         let event = Event::Finish {
@@ -209,6 +216,7 @@ impl Engine {
         ensures err { (s : Scene) → Stands self.old s → ArePages s.world from page.now
             → OnErr result ((w : World) × BeginsPages s.world (database_of (at + 1)) from page.now w × Stands self.new (in_world s w)) }
         ensures few { IfOk result (λ outcome. IfOk outcome (λ paged. paged.taken ≤ length page.now)) }
+        ensures adopted { IfOk result (λ outcome. IfOk outcome (λ paged. Adopted at from entry paged.taken self.old self.new)) }
         ensures made { OnOk result (made_by_all self.new ≡ made_by_all self.old) }
         ensures many { length self.new.folders.items ≡ length self.old.folders.items }
     {
@@ -248,6 +256,7 @@ impl Engine {
         ensures err { (s : Scene) → Stands self.old s → AreCovered s.world (database_of (from + 1)) files.now
             → OnErr result ((w : World) × BeginsFiles s.world (database_of (at + 1)) (database_of (from + 1)) files.now w × Stands self.new (in_world s w)) }
         ensures few { IfOk result (λ outcome. IfOk outcome (λ taken. taken ≤ length files.now)) }
+        ensures fetched { IfOk result (λ outcome. IfOk outcome (λ taken. Fetches at from (database_of (from + 1)) taken self.old self.new)) }
         ensures made { OnOk result (made_by_all self.new ≡ made_by_all self.old) }
         ensures many { length self.new.folders.items ≡ length self.old.folders.items }
     {
@@ -289,6 +298,7 @@ impl Engine {
             → IfOk result (λ outcome. (w : World) × PullEnds s.world (database_of (at + 1)) (database_of (from + 1)) outcome w × Stands self.new (in_world s w)) }
         ensures err { (s : Scene) → Stands self.old s
             → OnErr result ((w : World) × ((w ≡ s.world) ⊎ BeginsPull s.world (database_of (at + 1)) (database_of (from + 1)) w) × Stands self.new (in_world s w)) }
+        ensures pulled { IfOk result (λ outcome. IfOk outcome (λ taken. Pulled at from (database_of (from + 1)) taken self.old self.new)) }
         ensures made { OnOk result (made_by_all self.new ≡ made_by_all self.old) }
     {
         let server = self.database(from);

@@ -40,3 +40,13 @@ returns-in-Some-NotYet-clause-made c =
 
 pub returns-in_err-reply-clause-err : goal.returns-in_err-reply-clause-err
 returns-in_err-reply-clause-err c = λ s stands. on_err _ (still c.args.self.now c.event.new.self s stands (ap (λ x. x.items) c.event.ensures.names) c.in_err-reply.ensures.err)
+
+pub returns-in-Some-Found-clause-came : goal.returns-in-Some-Found-clause-came
+returns-in-Some-Found-clause-came c =
+    let said = c.file_of.ensures in let some = c.in-Some-Found.is in let found = c.in-Some-Found.field-0-is in let form = c.form_of-form.ensures.form in
+    (c.in_ok-reply.reply, c.in_ok-reply.ensures.entered, cc)
+
+pub returns-in-Some-NotYet-clause-came : goal.returns-in-Some-NotYet-clause-came
+returns-in-Some-NotYet-clause-came c =
+    let said = c.file_of.ensures in let some = c.in-Some-NotYet.is in let waits = c.in-Some-NotYet.field-0-is in
+    (c.in_ok-reply.reply, c.in_ok-reply.ensures.entered, cc)

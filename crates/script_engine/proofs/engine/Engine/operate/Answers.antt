@@ -26,3 +26,6 @@ returns-clause-made c =
 
 pub returns-in_err-reply-clause-err : goal.returns-in_err-reply-clause-err
 returns-in_err-reply-clause-err c = λ s stands. on_err _ (still c.args.self.now c.event.new.self s stands (ap (λ x. x.items) c.event.ensures.names) c.in_err-reply.ensures.err)
+
+pub returns-clause-came : goal.returns-clause-came
+returns-clause-came c = let said = c.usn_of.ensures in let some = c.in-Some.is in (c.in_ok-reply.reply, c.in_ok-reply.ensures.entered, cc)

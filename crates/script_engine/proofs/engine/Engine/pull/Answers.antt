@@ -1,8 +1,13 @@
-use Rattle.std.proofs.Common.{◌+◌, ◌∙◌, ap, sym, subst, inl, inr, refl, None}
+use Rattle.std.proofs.Common.{◌+◌, ◌∙◌, ap, sym, subst, inl, inr, refl, None, Ok}
+use Rattle.std.specs.Prelude.{IfOk}
 use Rattle.frs_base.specs.Identifiers.{database_of}
 use Rattle.world_model.specs.Events.{sends_vector}
 use Rattle.script_engine.specs.Begun.{BeginsFiles, BeginsPages}
-use Rattle.script_engine.specs.Pulls.{AreCovered, ArePages, Ended, FilesTaken, MayFinish, PagesTaken}
+use Rattle.folder_core.specs.declared.event.Event.TheVariants.{Finish}
+use Rattle.pinned_pages.specs.Pages.{IsPage}
+use Rattle.script_engine.specs.Histories.{Adopted, Came, Fetches}
+use Rattle.script_engine.specs.Replies.{taken_of}
+use Rattle.script_engine.specs.Pulls.{AreCovered, ArePages, Ended, FilesTaken, MayFinish, PagesTaken, unknown}
 use Rattle.script_engine.specs.Scene.{in_world}
 use Rattle.script_engine.proofs.Beginning.{files_begun, on_err, sent_begun}
 use Rattle.script_engine.proofs.Whole.{all_taken, cut_at_end, cut_in_files, cut_in_pages, listed_covered, may_finish, pages_are, pull_asked}
@@ -257,3 +262,24 @@ returns-in_err-finish-clause-err c = λ s stands.
     let (files_took, held, more) = all2 in
     let all = files_begun paged p e listed c.in-Ok-2.fetched None filed files_took in
     on_err c.from_residual-in_err-finish.result (filed, inr (sent, page, refl, asked, inr (listed, c.in-Ok.paged.taken, paged, pages_took, inl all)), c.in_err-finish.ensures.err (in_world s filed) on2)
+
+pub returns-in-Ok-3-clause-pulled : goal.returns-in-Ok-3-clause-pulled
+returns-in-Ok-3-clause-pulled c =
+    let p = c.args.at in
+    let e = database_of (c.args.from + 1) in
+    let pinned = c.in_ok-pinned.pinned in
+    let page = c.in_ok-page.page.items in
+    let server = c.database-server.ensures in
+    let asked = c.ask.new.self in
+    let paged = c.take_pages.new.self in
+    let filed = c.take_files.new.self in
+    let new = c.finish.new.self in
+    let vector = c.vector.ensures.vector ∙ ap (λ b. b.vector) c.book.ensures.book in
+    let adopted = subst (λ n. Adopted p n pinned.at c.in-Ok.paged.taken asked paged) server
+    (subst (λ o. IfOk o (λ x. Adopted p c.database-server.result pinned.at x.taken asked paged)) c.in-Ok.is c.in_ok-paged.ensures.adopted) in
+    let fetched = subst (λ o. IfOk o (λ n. Fetches p c.args.from e n paged filed)) c.in-Ok-2.is c.in_ok-fetched.ensures.fetched in
+    let came = subst (λ o. Came p (Finish c.database-server.result pinned.at pinned.vector c.of-seen.result) taken_of o filed new) c.in-Ok-3.is c.in_ok-finish.ensures.came in
+    let seen = subst (λ us. Came p (Finish c.database-server.result pinned.at pinned.vector us) taken_of (Ok tt) filed new) c.of-seen.ensures came in
+    let finished = subst (λ n. Came p (Finish n pinned.at pinned.vector page) taken_of (Ok tt) filed new) server seen in
+    let is_page = subst (λ v. IsPage (unknown pinned.vector v) pinned.records page) vector c.in_ok-page.ensures in
+    (asked, paged, filed, pinned, page, c.in-Ok.paged.taken, c.in-Ok-2.fetched, c.in_ok-pinned.ensures.came, adopted, fetched, finished, (c.folder.result.now, c.folder.ensures, is_page), refl)

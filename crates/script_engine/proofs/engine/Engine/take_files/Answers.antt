@@ -1,7 +1,10 @@
-use Rattle.std.proofs.Common.{◌+◌, ◌∙◌, ap, sym, subst, length, Some, arith}
+use Rattle.std.proofs.Common.{◌≡◌, ◌+◌, ◌∙◌, ap, sym, subst, length, suc, Some, arith}
 use Rattle.frs_base.specs.Identifiers.{database_of}
 use Rattle.world_model.specs.Rounds.{IsWanted}
 use Rattle.script_engine.specs.Engines.{Stands, made_by_all}
+use Rattle.folder_core.specs.declared.event.Event.TheVariants.{Adopt, File}
+use Rattle.script_engine.specs.Histories.{Came, Fetches, answer_of}
+use Rattle.script_engine.specs.Replies.{file_of, taken_of}
 use Rattle.script_engine.specs.Pulling.{TakesFiles}
 use Rattle.script_engine.specs.Pulls.{CanTake, FetchedFrom, Took}
 use Rattle.script_engine.specs.Scene.{in_world}
@@ -89,6 +92,16 @@ loop-file-preserved c = elim c.if-wants.branch [
         many = ap (λ x. length x.folders.items) b.self-is ∙ b.adopt.ensures.many ∙ b.fetch.ensures.many ∙ l.many;
         made = ap made_by_all b.self-is ∙ b.in_ok-refusal.ensures.made ∙ b.in_ok-fetched.ensures.made ∙ l.made;
         few = let few = l.few in let taken = b.taken-is in omega (arith, few, taken);
+        fetched =
+            let e = database_of (c.args.from + 1) in
+            let f = b.in-Ok.fetched in
+            let one = b.taken-is in
+            let more : c.if-wants.taken ≡ suc c.loop-file.taken = omega (arith, one) in
+            let asked = subst (λ o. Came c.args.from (File c.file-item.result.uid) file_of (answer_of o) c.loop-file.self b.fetch.new.self) b.in-Ok.is b.in_ok-fetched.ensures.came in
+            let came = subst (λ o. Came c.args.at (Adopt e f.at f.update f.form) taken_of o b.fetch.new.self b.adopt.new.self) b.in_default.is
+            (subst (λ n. Came c.args.at (Adopt n f.at f.update f.form) taken_of b.in_ok-refusal.field-0 b.fetch.new.self b.adopt.new.self) l.server b.in_ok-refusal.ensures.came) in
+            subst (λ x. Fetches c.args.at c.args.from e c.if-wants.taken c.args.self.now x) (sym b.self-is)
+            (subst (λ n. Fetches c.args.at c.args.from e n c.args.self.now b.adopt.new.self) (sym more) (c.loop-file.self, b.fetch.new.self, c.file-item.result.uid, f, l.fetched, asked, came));
         server = l.server;
         ran = λ s stands covered.
             let p = database_of (c.args.at + 1) in
@@ -117,6 +130,7 @@ loop-file-preserved c = elim c.if-wants.branch [
         many = ap (λ x. length x.folders.items) b.self-is ∙ l.many;
         made = ap made_by_all b.self-is ∙ l.made;
         few = let few = l.few in let taken = b.taken-is in omega (arith, few, taken);
+        fetched = subst (λ x. Fetches c.args.at c.args.from (database_of (c.args.from + 1)) c.if-wants.taken c.args.self.now x) (sym b.self-is) (subst (λ n. Fetches c.args.at c.args.from (database_of (c.args.from + 1)) n c.args.self.now c.loop-file.self) (sym b.taken-is) l.fetched);
         server = l.server;
         ran = λ s stands covered.
             let p = database_of (c.args.at + 1) in
@@ -155,3 +169,6 @@ returns-in_err-refusal-clause-err c = λ s stands covered.
     let known = files_covered s.world w e files u covered so.grows (in_place files i u c.loop-file-test.true c.file-item.is) in
     let (fetched, there) = c.in_ok-fetched.ensures.ok (in_world s w) on known in
     on_err c.from_residual-in_err-refusal.result (w, files_first s.world p e files i w c.loop-file.taken so, c.in_err-refusal.ensures.err (in_world s w) there)
+
+pub returns-clause-fetched : goal.returns-clause-fetched
+returns-clause-fetched c = c.loop-file.invariant.fetched

@@ -2,6 +2,7 @@ use Rattle.std.proofs.Common.{◌≡◌, ◌≤◌, ◌+◌, length}
 use Rattle.frs_base.specs.Identifiers.{database_of}
 use Rattle.world_model.specs.World.{World}
 use Rattle.script_engine.specs.Engines.{Stands, made_by_all}
+use Rattle.script_engine.specs.Histories.{Fetches}
 use Rattle.script_engine.specs.Pulls.{AreCovered}
 use Rattle.script_engine.specs.Scene.{Scene, in_world}
 use Rattle.script_engine.proofs.Paging.{FilesSo}
@@ -13,6 +14,7 @@ invariant-loop-file l = record {
   many : length l.self.folders.items ≡ length l.fn.self.folders.items;
   made : made_by_all l.self ≡ made_by_all l.fn.self;
   few : l.taken ≤ l.file-index;
+  fetched : Fetches l.at l.from (database_of (l.from + 1)) l.taken l.fn.self l.self;
   server : l.server ≡ database_of (l.from + 1);
   ran : (s : Scene) → Stands l.fn.self s → AreCovered s.world (database_of (l.from + 1)) l.files
       → (w : World) × FilesSo s.world (database_of (l.at + 1)) (database_of (l.from + 1)) l.files l.file-index w l.taken × Stands l.self (in_world s w);

@@ -1,8 +1,11 @@
-use Rattle.std.proofs.Common.{◌≡◌, ◌+◌, ◌++◌, ◌∷◌, [], ◌∙◌, ap, sym, subst, length, true, false, Some, arith}
+use Rattle.std.proofs.Common.{◌≡◌, ◌+◌, ◌++◌, ◌∷◌, [], ◌∙◌, ap, sym, subst, length, suc, true, false, Some, None, arith}
 use Rattle.frs_base.specs.Identifiers.{database_of}
 use Rattle.name_rules.specs.Tree.{is_file}
 use Rattle.world_model.specs.Rounds.{IsWanted}
 use Rattle.script_engine.specs.Engines.{Stands, made_by_all}
+use Rattle.folder_core.specs.declared.event.Event.TheVariants.{Adopt}
+use Rattle.script_engine.specs.Histories.{Adopted, Came}
+use Rattle.script_engine.specs.Replies.{taken_of}
 use Rattle.script_engine.specs.Pulling.{TakesPages}
 use Rattle.script_engine.specs.Pulls.{CanTake, Took}
 use Rattle.script_engine.specs.Scene.{in_world}
@@ -53,6 +56,7 @@ loop-update-preserved c = elim c.if-wants.branch [
         many = ap (λ x. length x.folders.items) b.self-is ∙ l.many;
         made = ap made_by_all b.self-is ∙ l.made;
         few = let few = l.few in let taken = b.taken-is in omega (arith, few, taken);
+        adopted = subst (λ x. Adopted c.args.at c.args.from c.args.entry c.if-wants.taken c.args.self.now x) (sym b.self-is) (subst (λ n. Adopted c.args.at c.args.from c.args.entry n c.args.self.now c.loop-update.self) (sym b.taken-is) l.adopted);
         ran = λ s stands pages.
             let p = database_of (c.args.at + 1) in
             let e = c.args.from in
@@ -75,6 +79,12 @@ loop-update-preserved c = elim c.if-wants.branch [
         many = ap (λ x. length x.folders.items) b.self-is ∙ b.adopt.ensures.many ∙ l.many;
         made = ap made_by_all b.self-is ∙ b.in_ok-refusal.ensures.made ∙ l.made;
         few = let few = l.few in let taken = b.taken-is in omega (arith, few, taken);
+        adopted =
+            let one = b.taken-is in
+            let more : c.if-wants.taken ≡ suc c.loop-update.taken = omega (arith, one) in
+            let came = subst (λ o. Came c.args.at (Adopt c.args.from c.args.entry b.in_ok-update.update None) taken_of o c.loop-update.self b.adopt.new.self) b.in_default.is b.in_ok-refusal.ensures.came in
+            subst (λ x. Adopted c.args.at c.args.from c.args.entry c.if-wants.taken c.args.self.now x) (sym b.self-is)
+            (subst (λ n. Adopted c.args.at c.args.from c.args.entry n c.args.self.now b.adopt.new.self) (sym more) (c.loop-update.self, b.in_ok-update.update, l.adopted, came));
         ran = λ s stands pages.
             let p = database_of (c.args.at + 1) in
             let e = c.args.from in
@@ -101,6 +111,7 @@ loop-update-preserved c = elim c.if-wants.branch [
         many = ap (λ x. length x.folders.items) b.self-is ∙ l.many;
         made = ap made_by_all b.self-is ∙ l.made;
         few = let few = l.few in let taken = b.taken-is in omega (arith, few, taken);
+        adopted = subst (λ x. Adopted c.args.at c.args.from c.args.entry c.if-wants.taken c.args.self.now x) (sym b.self-is) (subst (λ n. Adopted c.args.at c.args.from c.args.entry n c.args.self.now c.loop-update.self) (sym b.taken-is) l.adopted);
         ran = λ s stands pages.
             let p = database_of (c.args.at + 1) in
             let e = c.args.from in
@@ -143,3 +154,6 @@ pub returns-in_err-refusal-clause-err : goal.returns-in_err-refusal-clause-err
 returns-in_err-refusal-clause-err c = λ s stands pages.
     let (w, so, on) = c.loop-update.invariant.ran s stands pages in
     on_err c.from_residual-in_err-refusal.result (w, pages_first s.world (database_of (c.args.at + 1)) c.args.from c.args.page.now c.loop-update.update-index w c.loop-update.listed.items c.loop-update.taken so, c.in_err-refusal.ensures.err (in_world s w) on)
+
+pub returns-clause-adopted : goal.returns-clause-adopted
+returns-clause-adopted c = c.loop-update.invariant.adopted
