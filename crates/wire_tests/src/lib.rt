@@ -1,6 +1,5 @@
 //! What no contract says of the crates of the wire, tried: that memory is found, and bytes, PDUs,
-//! fragments, stubs and rows written
-//! out by hand.
+//! fragments, stubs and rows written out by hand.
 //!
 //! The tests stand apart from the crates that they try, so that those are proved once.
 #![tactic(auto)]
