@@ -1,5 +1,5 @@
 -- An event has one answer, and leads to one machine.
-use Rattle.std.proofs.Common.{◌≡◌, ◌<◌, ◌+◌, ◌||◌, ℕ, Bool, true, false, ltb, List, [], ◌∷◌, Option, Some, None, Result, Ok, Err, refl, sym, ap, ◌∙◌, subst, inl, inr, arith}
+use Rattle.std.proofs.Common.{◌≡◌, ◌<◌, ◌≤◌, ◌+◌, ◌||◌, ℕ, Bool, true, false, ltb, List, [], ◌∷◌, length, Option, Some, None, Result, Ok, Err, refl, sym, ap, ◌∙◌, subst, inl, inr, arith}
 use Rattle.std.specs.Prelude.{MatchBool, MatchOption, MatchResult, unwrap_or}
 use Rattle.std.proofs.lemmas.Bool.Decides.{nat_tests}
 use Rattle.frs_base.specs.declared.version.Gvsn.{Gvsn}
@@ -124,22 +124,21 @@ changed_one op old x y c d =
 
 -- a vector that is too long isn't the one that is taken
 not_both : (op : BookCmd) (count : ℕ) (old x : Machine) → IsTooLong (vector.VectorFull count) (covered_after op old.book) → Changed op old x → ⊥
-not_both op count old x (over, each) c =
-    let long = each x.book.vector c.book.vector.canonical c.book.vector.covering in
-    let within = c.within in
-    omega (arith, over, long, within)
+not_both op count old x (over, (list, form, alike, long)) c =
+    let one : list ≡ x.book.vector = unique list x.book.vector form c.book.vector.canonical (λ h. alike h ∙ sym (c.book.vector.covering h)) in
+    let short : length list ≤ 65536 = subst (λ l. length l ≤ 65536) (sym one) c.within in
+    omega (arith, over, long, short)
 
-counts_one : (op : BookCmd) (n m : ℕ) (old : Machine) → IsCanonical old.book.vector → IsTooLong (vector.VectorFull n) (covered_after op old.book) → IsTooLong (vector.VectorFull m) (covered_after op old.book) → n ≡ m
-counts_one op n m old form (over, each) (more, every) =
-    let (list, v) = covers_after op old.book form in
-    sym (each list v.canonical v.covering) ∙ every list v.canonical v.covering
+counts_one : (op : BookCmd) (n m : ℕ) (old : Machine) → IsTooLong (vector.VectorFull n) (covered_after op old.book) → IsTooLong (vector.VectorFull m) (covered_after op old.book) → n ≡ m
+counts_one op n m old (over, (a, form, alike, long)) (more, (b, form', alike', long')) =
+    sym long ∙ ap length (unique a b form form' (λ h. alike h ∙ sym (alike' h))) ∙ long'
 
 takes_one : (op : BookCmd) (done a b : Reply) (old x y : Machine) → IsCanonical old.book.vector → Takes op done old a x → Takes op done old b y → AreOne a x b y
 takes_one op done a b old x y form (inl (p, c)) (inl (q, d)) = (p ∙ sym q, changed_one op old x y c d)
 takes_one op done a b old x y form (inl (p, c)) (inr (n, full)) = absurd (not_both op n old x full.0 c)
 takes_one op done a b old x y form (inr (n, full)) (inl (q, d)) = absurd (not_both op n old y full.0 d)
 takes_one op done a b old x y form (inr (n, full)) (inr (m, over)) =
-    (full.1.0 ∙ (ap (λ k. reply.Refused (why.VectorFull k)) (counts_one op n m old form full.0 over.0) ∙ sym over.1.0), full.1.1 ∙ sym over.1.1)
+    (full.1.0 ∙ (ap (λ k. reply.Refused (why.VectorFull k)) (counts_one op n m old full.0 over.0) ∙ sym over.1.0), full.1.1 ∙ sym over.1.1)
 
 -- ---- events
 

@@ -1,5 +1,5 @@
 -- What a book says of the width of its vector.
-use Rattle.std.proofs.Common.{◌≡◌, ◌≤◌, ℕ, List, length, subst}
+use Rattle.std.proofs.Common.{◌≡◌, ◌≤◌, ◌∙◌, ℕ, List, length, subst}
 use Rattle.version_vector.specs.Limits.{IsTooLong}
 use Rattle.version_vector.specs.Versions.{covers}
 use Rattle.version_vector.specs.declared.errors.VectorError.TheVariants as vector
@@ -20,6 +20,4 @@ fits_by set other vector e is within = subst Fits e (vector, record { canonical 
 
 -- a set whose vector is too long
 pub exceeds_by : (set other : Versions) (count : ℕ) → set ≡ other → HasVector other → IsTooLong (vector.VectorFull count) set → Exceeds other count
-exceeds_by set other count e (list, is) (above, long) =
-    let wide : IsTooLong (vector.VectorFull count) other = subst (λ s. IsTooLong (vector.VectorFull count) s) e (above, long) in
-    (list, is, wide.1 list is.canonical is.covering, above)
+exceeds_by set other count e has (above, (list, form, alike, long)) = (list, record { canonical = form; covering = λ g. alike g ∙ (λ i. e i g) }, long, above)
