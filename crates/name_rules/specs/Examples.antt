@@ -9,6 +9,7 @@ use Rattle.vol_state.specs.Conditions.{root_uid}
 use Rattle.vol_state.specs.Sums.{no_sum}
 use Rattle.vol_state.specs.declared.command.VolCmd.TheVariants.{PutNew, PutOver}
 use Rattle.vol_state.specs.Maps.{Maps, fresh_maps, write}
+use Rattle.name_rules.specs.Shown.{Among}
 use Rattle.name_rules.specs.Next.{IsAnswer, Next, NotYet}
 use Rattle.name_rules.specs.Tree.{IsShown}
 
@@ -31,9 +32,6 @@ record_of present attributes db usn parent name clock = record {
   flags = 0;
 }
 
--- these and no others
-abbrev pub Among : List Update → Update → Type 0
-Among records u = In u records
 
 -- ---- matching names
 

@@ -7,6 +7,7 @@
 
 mod kinds;
 mod laws;
+mod named;
 
 pub use kinds::is_file;
 pub use laws::{
