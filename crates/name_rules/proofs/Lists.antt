@@ -1,5 +1,5 @@
 -- Members of lists.
-use Rattle.std.proofs.Common.{◌≡◌, ◌<◌, ℕ, zero, suc, inl, inr, Bool, true, false, cond, List, [], ◌∷◌, length, map, get_or, refl, sym, ap, ◌∙◌, subst, arith}
+use Rattle.std.proofs.Common.{◌≡◌, ◌⊎◌, ◌++◌, ◌<◌, ℕ, zero, suc, inl, inr, Bool, true, false, cond, List, [], ◌∷◌, Some, length, map, slice_get, get_or, unwrap_or, refl, sym, ap, ◌∙◌, subst, arith}
 use Rattle.std.specs.List.{AllByRecursion, Contains, filter}
 use Rattle.frs_base.specs.Options.{In}
 
@@ -55,3 +55,37 @@ pub in_mapped : {X Y : Type 0} (f : X → Y) (xs : List X) (y : Y) → In y (map
 in_mapped f [] y h = absurd h
 in_mapped f (x ∷ xs) y (inl e) = (x, inl refl, e)
 in_mapped f (x ∷ xs) y (inr h) = let (z, k, e) = in_mapped f xs y h in (z, inr k, e)
+
+pub at_mapped : {X Y : Type 0} (f : X → Y) (xs : List X) (k : ℕ) (y : Y) → slice_get (map f xs) k ≡ Some y → (x : X) × (slice_get xs k ≡ Some x) × (y ≡ f x)
+at_mapped f [] k y e = absurd (cc)
+at_mapped f (x ∷ xs) zero y e = (x, refl, sym (ap (λ o. unwrap_or o (f x)) e))
+at_mapped f (x ∷ xs) (suc k) y e = at_mapped f xs k y e
+
+pub get_append : {X : Type 0} (xs ys : List X) (k : ℕ) (x : X) → slice_get xs k ≡ Some x → slice_get (xs ++ ys) k ≡ Some x
+get_append [] ys k x e = absurd (cc)
+get_append (z ∷ xs) ys zero x e = e
+get_append (z ∷ xs) ys (suc k) x e = get_append xs ys k x e
+
+pub got_in : {X : Type 0} (xs : List X) (k : ℕ) (x : X) → slice_get xs k ≡ Some x → In x xs
+got_in [] k x e = absurd (cc)
+got_in (z ∷ xs) zero x e = inl (sym (ap (λ o. unwrap_or o x) e))
+got_in (z ∷ xs) (suc k) x e = inr (got_in xs k x e)
+
+pub in_got : {X : Type 0} (xs : List X) (x : X) → In x xs → (k : ℕ) × (slice_get xs k ≡ Some x)
+in_got [] x h = absurd h
+in_got (z ∷ xs) x (inl e) = (0, ap Some (sym e))
+in_got (z ∷ xs) x (inr h) = let (k, e) = in_got xs x h in (suc k, e)
+
+pub in_front : {X : Type 0} (xs ys : List X) (x : X) → In x xs → In x (xs ++ ys)
+in_front [] ys x h = absurd h
+in_front (z ∷ xs) ys x (inl e) = inl e
+in_front (z ∷ xs) ys x (inr h) = inr (in_front xs ys x h)
+
+pub in_back : {X : Type 0} (xs ys : List X) (x : X) → In x ys → In x (xs ++ ys)
+in_back [] ys x h = h
+in_back (z ∷ xs) ys x h = inr (in_back xs ys x h)
+
+pub in_either : {X : Type 0} (xs ys : List X) (x : X) → In x (xs ++ ys) → In x xs ⊎ In x ys
+in_either [] ys x h = inr h
+in_either (z ∷ xs) ys x (inl e) = inl (inl e)
+in_either (z ∷ xs) ys x (inr h) = elim (in_either xs ys x h) [ inl k ↦ inl (inr k) | inr k ↦ inr k ]

@@ -1,6 +1,6 @@
 -- The last of each place, of records by rank.
 use Rattle.std.proofs.Common.{◌≡◌, ◌+◌, ◌&&◌, ℕ, Bool, true, false, inl, inr, suc, List, [], ◌∷◌, Ordering, Less, Equal, Greater, cond, get_or, is_lt, is_eq, map, nat_cmp, refl, sym, ap, ◌∙◌, subst, arith}
-use Rattle.std.proofs.lemmas.Cmp.{tied_back, tied_itself}
+use Rattle.std.proofs.lemmas.Cmp.{alike_right, tied_back, tied_itself}
 use Rattle.std.proofs.lemmas.List.Sorted.{ranks_by, sorted_far}
 use Rattle.std.specs.FinMap.{nat_cmp-IsAntisymmetric}
 use Rattle.std.specs.List.Sorted.{IsSortedBy}
@@ -14,9 +14,9 @@ use Rattle.win_order.specs.declared.update.Update.{Update}
 use Rattle.vol_state.proofs.Volumes.{is_same}
 use Rattle.vol_state.proofs.Walks.{same_is}
 use Rattle.name_rules.specs.Tree.{HasName}
-use Rattle.name_rules.specs.Shown.{Among, AreByParent, AreDistinct, AreNamed, AreRising, IsRanked, key_cmp, last_of_places, place_cmp, rank_cmp, same_place}
+use Rattle.name_rules.specs.Shown.{Among, AreByPlace, AreDistinct, AreNamed, AreRising, IsRanked, key_cmp, last_of_places, place_cmp, rank_cmp, same_place}
 use Rattle.name_rules.proofs.Lists.{all_in, in_at, in_mapped}
-use Rattle.name_rules.proofs.Ranks.{by_key, key_lt_is, key_total, parent_first, place_first, place_total, rank_total, same_place_is}
+use Rattle.name_rules.proofs.Ranks.{by_key, key_lt_is, key_total, place_first, place_total, rank_total, same_place_is}
 
 -- of two updates, which one a sort puts first
 abbrev pub rank_lt : Update → Update → Bool
@@ -156,15 +156,35 @@ greatest_last (x ∷ y ∷ us) r one u h g = by (same_place x y) refl h (λ w k.
     by false t (inl e) more = inl e
     by false t (inr k) more = inr (more u k (λ v j. g v (inr j)))
 
--- in order of their parents
-last_by_parent : (us : List Update) → AreRising us → AreByParent (last_of_places us)
-last_by_parent [] r = tt
-last_by_parent (x ∷ []) r = (tt, tt)
-last_by_parent (x ∷ y ∷ us) r = by (same_place x y) (last_by_parent (y ∷ us) r.1)
+-- in order of their places
+last_by_place : (us : List Update) → AreRising us → AreByPlace (last_of_places us)
+last_by_place [] r = tt
+last_by_place (x ∷ []) r = (tt, tt)
+last_by_place (x ∷ y ∷ us) r = by (same_place x y) refl (last_by_place (y ∷ us) r.1)
   where
-    by : (b : Bool) → AreByParent (last_of_places (y ∷ us)) → AreByParent (cond b (last_of_places (y ∷ us)) (x ∷ last_of_places (y ∷ us)))
-    by true more = more
-    by false more = (all_in (λ v. uid_lt v.parent x.parent ≡ false) (last_of_places (y ∷ us)) (λ v h. parent_first v x (r.0 v (last_in (y ∷ us) v h))), more)
+    before : same_place x y ≡ false → place_cmp x y ≡ Less
+    before t = go (place_cmp x y) refl
+      where
+        go : (o : Ordering) → place_cmp x y ≡ o → o ≡ Less
+        go Less e = refl
+        go Equal e = absurd (let s : same_place x y ≡ true = same_place_is x y ∙ ap is_eq e in cc)
+        go Greater e = absurd (let s : is_lt (place_cmp y x) ≡ true = ap is_lt (place_total.antisymm y x ∙ ap ordering_reverse e) in let f = place_first y x (r.0 y (inl refl)) in cc)
+
+    far : same_place x y ≡ false → (v : Update) → rank_lt v y ≡ false → is_lt (place_cmp x v) ≡ true
+    far t v low = go (place_cmp y v) refl
+      where
+        go : (o : Ordering) → place_cmp y v ≡ o → is_lt (place_cmp x v) ≡ true
+        go Less e = ap is_lt (place_total.trans x y v (before t) e)
+        go Equal e = ap is_lt (sym (alike_right place_total y v x e) ∙ before t)
+        go Greater e = absurd (let s : is_lt (place_cmp v y) ≡ true = ap is_lt (place_total.antisymm v y ∙ ap ordering_reverse e) in let f = place_first v y low in cc)
+
+    low : (v : Update) → In v (y ∷ us) → rank_lt v y ≡ false
+    low v (inl f) = subst (λ w. rank_lt w y ≡ false) (sym f) (rank_itself y)
+    low v (inr k) = r.1.0 v k
+
+    by : (b : Bool) → same_place x y ≡ b → AreByPlace (last_of_places (y ∷ us)) → AreByPlace (cond b (last_of_places (y ∷ us)) (x ∷ last_of_places (y ∷ us)))
+    by true t more = more
+    by false t more = (all_in (λ v. is_lt (place_cmp x v) ≡ true) (last_of_places (y ∷ us)) (λ v h. far t v (low v (last_in (y ∷ us) v h))), more)
 
 -- ---- together
 
@@ -181,7 +201,7 @@ both a b p q = λ i. (ap (λ x. x && b) p ∙ q) i
 
 pub are_named : (records ranked : List Update) → AreDistinct records → IsRanked records ranked → AreNamed records (last_of_places ranked)
 are_named records ranked distinct is = record {
-  ordered = last_by_parent ranked up;
+  ordered = last_by_place ranked up;
   each = λ u h.
       let mine = is.each u (last_in ranked u h) in record {
         among = mine.0;

@@ -108,11 +108,11 @@ place_first u v e = by (place_cmp u v) e
     by Equal e = refl
     by Greater e = refl
 
--- nor by parent
-pub parent_first : (u v : Update) → is_lt (rank_cmp u v) ≡ false → uid_lt u.parent v.parent ≡ false
-parent_first u v e = uid_lt_is u.parent v.parent ∙ by (uid_cmp u.parent v.parent) (place_first u v e)
+-- what comes first by place isn't higher by parent
+pub parent_first : (u v : Update) → is_lt (place_cmp u v) ≡ true → uid_lt v.parent u.parent ≡ false
+parent_first u v e = uid_lt_is v.parent u.parent ∙ ap is_lt (uid_total.antisymm v.parent u.parent) ∙ by (uid_cmp u.parent v.parent) e
   where
-    by : (o : Ordering) → is_lt (ordering_then o (slice_cmp nat_cmp (folded u) (folded v))) ≡ false → is_lt o ≡ false
-    by Less e = e
+    by : (o : Ordering) → is_lt (ordering_then o (slice_cmp nat_cmp (folded u) (folded v))) ≡ true → is_lt (ordering_reverse o) ≡ false
+    by Less e = refl
     by Equal e = refl
-    by Greater e = refl
+    by Greater e = absurd (cc)
