@@ -1,5 +1,5 @@
 -- Those in one directory, among those in order of their places.
-use Rattle.std.proofs.Common.{◌≡◌, ◌<◌, ◌≤◌, ◌||◌, ◌&&◌, ◌==◌, ℕ, zero, suc, inl, inr, Bool, true, false, not, nat_lt, List, [], ◌∷◌, Some, length, map, get_or, slice_get, refl, sym, ap, ◌∙◌, subst, arith}
+use Rattle.std.proofs.Common.{◌≡◌, ◌<◌, ◌≤◌, ℕ, zero, suc, inl, inr, Bool, true, false, not, List, [], ◌∷◌, length, map, get_or, refl, sym, ap, ◌∙◌, subst, arith}
 use Rattle.std.proofs.lemmas.Bool.Decides.{nat_tests}
 use Rattle.std.proofs.lemmas.Option.{get_or_from_slice_get, slice_get_within}
 use Rattle.std.proofs.lemmas.List.{length-map}
@@ -8,7 +8,6 @@ use Rattle.std.specs.Ordering.{is_lt}
 use Rattle.frs_base.specs.Options.{In}
 use Rattle.frs_base.specs.Versions.{same_uid, uid_lt}
 use Rattle.frs_base.specs.declared.version.Uid.{Uid}
-use Rattle.vol_state.proofs.Volumes.{is_same}
 use Rattle.vol_state.proofs.Walks.{same_is}
 use Rattle.win_order.specs.declared.update.Update.{Update}
 use Rattle.name_rules.specs.Shown.{AreByPlace, AreChildren, place_cmp}
@@ -23,7 +22,7 @@ lower_too p q r a b = grind (arith, nat_tests)
 not_higher : (p q r : Uid) → uid_lt q p ≡ false → uid_lt r q ≡ false → uid_lt r p ≡ false
 not_higher p q r a b = grind (arith, nat_tests)
 
-neither : (p q : Uid) → uid_lt p q ≡ false → uid_lt q p ≡ false → same_uid p q ≡ true
+pub neither : (p q : Uid) → uid_lt p q ≡ false → uid_lt q p ≡ false → same_uid p q ≡ true
 neither p q a b = grind (arith, nat_tests)
 
 not_itself : (p : Uid) → uid_lt p p ≡ false

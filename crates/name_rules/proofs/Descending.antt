@@ -1,8 +1,7 @@
 -- From the root down, directory by directory.
-use Rattle.std.proofs.Common.{◌≡◌, ◌⊎◌, ◌∙◌, ◌++◌, ◌+◌, ◌<◌, ◌≤◌, ℕ, zero, suc, inl, inr, Bool, true, false, List, [], ◌∷◌, Some, length, slice_get, unwrap_or, refl, sym, ap, subst, arith}
+use Rattle.std.proofs.Common.{◌≡◌, ◌∙◌, ◌++◌, ◌+◌, ◌<◌, ◌≤◌, ℕ, zero, suc, inl, inr, Bool, true, false, List, [], ◌∷◌, Some, length, slice_get, unwrap_or, refl, sym, ap, subst, arith}
 use Rattle.std.proofs.lemmas.Option.{slice_get_within}
 use Rattle.frs_base.specs.Options.{In}
-use Rattle.frs_base.specs.declared.version.Uid.{Uid}
 use Rattle.vol_state.specs.Conditions.{root_uid}
 use Rattle.win_order.specs.Order.{is_directory}
 use Rattle.win_order.specs.declared.update.Update.{Update}

@@ -9,3 +9,4 @@ pub mod Places
 pub mod Children
 pub mod Flags
 pub mod Descending
+pub mod Found

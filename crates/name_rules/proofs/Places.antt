@@ -1,20 +1,18 @@
 -- The last of each place, of records by rank.
-use Rattle.std.proofs.Common.{◌≡◌, ◌+◌, ◌&&◌, ℕ, Bool, true, false, inl, inr, suc, List, [], ◌∷◌, Ordering, Less, Equal, Greater, cond, get_or, is_lt, is_eq, map, nat_cmp, refl, sym, ap, ◌∙◌, subst, arith}
+use Rattle.std.proofs.Common.{◌≡◌, ◌+◌, ◌&&◌, Bool, true, false, inl, inr, suc, List, [], ◌∷◌, Ordering, Less, Equal, Greater, cond, get_or, is_lt, is_eq, map, nat_cmp, refl, sym, ap, ◌∙◌, subst, arith}
 use Rattle.std.proofs.lemmas.Cmp.{alike_right, tied_back, tied_itself}
 use Rattle.std.proofs.lemmas.List.Sorted.{ranks_by, sorted_far}
 use Rattle.std.specs.FinMap.{nat_cmp-IsAntisymmetric}
 use Rattle.std.specs.List.Sorted.{IsSortedBy}
 use Rattle.std.specs.Ordering.{ordering_reverse, ordering_then}
 use Rattle.frs_base.specs.Options.{In}
-use Rattle.frs_base.specs.Versions.{same_uid, uid_lt}
-use Rattle.frs_base.specs.Names.{matches}
+use Rattle.frs_base.specs.Versions.{same_uid}
 use Rattle.win_order.specs.Order.{key_lt, key_of}
 use Rattle.win_order.specs.declared.key.Key.{Key}
 use Rattle.win_order.specs.declared.update.Update.{Update}
 use Rattle.vol_state.proofs.Volumes.{is_same}
 use Rattle.vol_state.proofs.Walks.{same_is}
-use Rattle.name_rules.specs.Tree.{HasName}
-use Rattle.name_rules.specs.Shown.{Among, AreByPlace, AreDistinct, AreNamed, AreRising, IsRanked, key_cmp, last_of_places, place_cmp, rank_cmp, same_place}
+use Rattle.name_rules.specs.Shown.{AreByPlace, AreDistinct, AreNamed, AreRising, IsRanked, key_cmp, last_of_places, place_cmp, rank_cmp, same_place}
 use Rattle.name_rules.proofs.Lists.{all_in, in_at, in_mapped}
 use Rattle.name_rules.proofs.Ranks.{by_key, key_lt_is, key_total, place_first, place_total, rank_total, same_place_is}
 

@@ -1,7 +1,6 @@
 -- Two small sets of records and a small journal, computed.
 use Rattle.std.specs.Prelude.{◌≡◌, ◌↔◌, ℕ, Bool, true, false, List, [], ◌∷◌, Option, replicate}
 use Rattle.frs_base.specs.Identifiers.{content_set}
-use Rattle.frs_base.specs.Options.{In}
 use Rattle.frs_base.specs.declared.sum.Sum.{Sum}
 use Rattle.frs_base.specs.declared.version.Uid.{Uid}
 use Rattle.win_order.specs.declared.update.Update.{Update}
@@ -31,7 +30,6 @@ record_of present attributes db usn parent name clock = record {
   name = name;
   flags = 0;
 }
-
 
 -- ---- matching names
 

@@ -19,7 +19,7 @@ use Rattle.name_rules.specs.Tree.{HasName, IsShown}
 abbrev pub Among : List Update → Update → Type 0
 Among records u = In u records
 
--- no two records are of one file, and no two have one version
+-- records of one file are one, and records of one version are one
 pub record AreDistinct (records : List Update) : Type 0 where
   pub files : (u v : Update) → In u records → In v records → u.uid ≡ v.uid → u ≡ v
   pub versions : (u v : Update) → In u records → In v records → u.gvsn ≡ v.gvsn → u ≡ v

@@ -77,10 +77,7 @@ fn same_place(a: &Update, b: &Update) -> bool
 }
 
 /// The records that have their names, in order of their parents.
-pub(crate) fn named<'a>(
-    alloc: Global,
-    records: &'a [Update],
-) -> Result<Vec<&'a Update>, AllocError>
+pub(crate) fn named<'a>(alloc: Global, records: &'a [Update]) -> Result<Vec<&'a Update>, AllocError>
     requires { AreDistinct records.now }
     ensures { IfOk result (λ named. AreNamed records.now (map (λ u. u.now) named.items)) }
 {

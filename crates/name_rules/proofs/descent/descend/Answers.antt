@@ -1,4 +1,5 @@
 use Rattle.std.proofs.Common.{◌≡◌, ◌∙◌, ◌+◌, ◌<◌, List, Some, length, map, slice_get, option_map, sym, ap, subst, arith, rules}
+use Rattle.std.proofs.lemmas.Bool.Decides.{nat_tests}
 use Rattle.std.proofs.lemmas.List.{length-map}
 use Rattle.std.proofs.lemmas.Option.{slice_get-get_or, slice_get-map}
 use Rattle.win_order.specs.declared.update.Update.{Update}
@@ -20,9 +21,9 @@ loop-next-init c =
 
 pub bounds-named-at : goal.bounds-named-at
 bounds-named-at c =
-    let look = c.in-Some.ensures.lookup in
-    let lt = look.1.1.1.0 in
-    let is = look.1.0 in
+    let within = c.in-Some.ensures.lookup.0 in
+    let is = c.in-Some.ensures.lookup.1 in
+    let lt : c.loop-next.next < length c.deref.result.now = grind (arith, nat_tests) in
     let place : slice_get c.deref.result.now c.loop-next.next ≡ Some c.in-Some.at.now = slice_get-get_or c.deref.result.now c.loop-next.next c.in-Some.at.now lt ∙ ap Some (sym is) in
     let there = got_in c.loop-next.reached.queue.items c.loop-next.next c.in-Some.at.now (ap (λ q. slice_get q c.loop-next.next) (sym c.deref.ensures.value) ∙ place) in
     let as_long = length-map c.args.named.now (λ u. u.now) in
@@ -39,12 +40,12 @@ loop-next-preserved c = elim c.if-is_directory.branch [
       let now = w.reach-then-is_directory.new.self in
       subst (λ r. Descending names (c.loop-next.next + 1) r.flags.items r.queue.items) (sym w.reached-is)
       (enters names c.loop-next.next c.loop-next.reached.flags.items c.loop-next.reached.queue.items c.in-Some.at.now c.index-named-at.result.now now.flags.items now.queue.items
-        c.loop-next.invariant place here (sym c.is_directory.ensures ∙ w.if-is_directory.true)
-        (subst (λ n. AreFlagged n now.flags.items now.queue.items) (sym as_long) e.flagged) e.children e.more)
+      c.loop-next.invariant place here (sym c.is_directory.ensures ∙ w.if-is_directory.true)
+      (subst (λ n. AreFlagged n now.flags.items now.queue.items) (sym as_long) e.flagged) e.children e.more)
   | else-is_directory w ↦
       subst (λ r. Descending names (c.loop-next.next + 1) r.flags.items r.queue.items) (sym w.reached-is)
       (passes names c.loop-next.next c.loop-next.reached.flags.items c.loop-next.reached.queue.items c.in-Some.at.now c.index-named-at.result.now
-        c.loop-next.invariant place here (sym c.is_directory.ensures ∙ w.if-is_directory.false))
+      c.loop-next.invariant place here (sym c.is_directory.ensures ∙ w.if-is_directory.false))
 ]
   where
     names : List Update
@@ -55,9 +56,9 @@ loop-next-preserved c = elim c.if-is_directory.branch [
 
     place : slice_get c.loop-next.reached.queue.items c.loop-next.next ≡ Some c.in-Some.at.now
     place =
-        let look = c.in-Some.ensures.lookup in
-        let lt = look.1.1.1.0 in
-        let is = look.1.0 in
+        let within = c.in-Some.ensures.lookup.0 in
+        let is = c.in-Some.ensures.lookup.1 in
+        let lt : c.loop-next.next < length c.deref.result.now = grind (arith, nat_tests) in
         ap (λ q. slice_get q c.loop-next.next) (sym c.deref.ensures.value)
         ∙ slice_get-get_or c.deref.result.now c.loop-next.next c.in-Some.at.now lt ∙ ap Some (sym is)
 

@@ -1,9 +1,8 @@
-use Rattle.std.proofs.Common.{◌≡◌, ◌∙◌, List, map, take, rules, refl, sym, ap, subst, arith, length}
+use Rattle.std.proofs.Common.{◌≡◌, ◌∙◌, List, map, rules, ap, subst, arith}
 use Rattle.std.proofs.lemmas.List.{take_all}
 use Rattle.std.proofs.lemmas.List.Sorted.{Contains-permutation, IsPermutation-map, IsPermutation-sym, answers_always, ranks_by}
 use Rattle.std.specs.List.{filter}
 use Rattle.std.specs.List.Sorted.{IsPermutation}
-use Rattle.frs_base.specs.Options.{In}
 use Rattle.win_order.specs.declared.update.Update.{Update}
 use Rattle.name_rules.proofs.Lists.{contains_in, in_contains, in_kept, kept_in}
 use Rattle.name_rules.proofs.Places.{rank_lt, rising}
@@ -13,7 +12,7 @@ use Rattle.name_rules.proofs.named.ranked.Goals as goal
 pub returns : goal.returns
 returns c = record {
   ordered = rising (λ u. u.now) c.sort_unstable_by.new.self.items
-  (c.sort_unstable_by.ensures.sorted (λ u v. rank_lt u.now v.now) (ranks_by rank_total (λ u. u.now)) (answers_always _ _ _ (λ f a r g h. search rules)));
+      (c.sort_unstable_by.ensures.sorted (λ u v. rank_lt u.now v.now) (ranks_by rank_total (λ u. u.now)) (answers_always _ _ _ (λ f a r g h. search rules)));
   each = λ u h. in_kept (λ (v : Update). v.present) c.args.records.now u (contains_in present u (Contains-permutation sorted present u (IsPermutation-sym present sorted moved) (in_contains sorted u h)));
   whole = λ u h e. contains_in sorted u (Contains-permutation present sorted u moved (in_contains present u (kept_in (λ (v : Update). v.present) c.args.records.now u h e)));
 }

@@ -1,6 +1,6 @@
-use Rattle.std.proofs.Common.{◌≡◌, ◌++◌, ◌<◌, ◌≤◌, ℕ, List, Some, true, length, map, slice_get}
+use Rattle.std.proofs.Common.{◌≡◌, ◌++◌, ◌<◌, ◌≤◌, ℕ, List, Some, true, length, slice_get}
 use Rattle.frs_base.specs.Options.{In}
-use Rattle.name_rules.specs.Shown.{AreChildren, AreFlagged}
+use Rattle.name_rules.specs.Shown.{AreFlagged}
 use Rattle.name_rules.proofs.descent.Reached.reach.Given as goal
 
 -- those of the directory so far are found, and no others beside what was found before
