@@ -11,6 +11,8 @@ mod consumer;
 #[cfg(test)]
 mod folder;
 #[cfg(test)]
+mod names;
+#[cfg(test)]
 mod pinned;
 #[cfg(test)]
 mod volume;

@@ -5,8 +5,9 @@ use Rattle.win_order.specs.Order.{key_lt, key_of}
 use Rattle.win_order.specs.declared.update.Update.{Update}
 use Rattle.vol_state.specs.declared.record.VolRecord.{VolRecord}
 use Rattle.name_rules.specs.Next.{Do, Drained, IsAnswer, Next, NotYet}
+use Rattle.name_rules.specs.Shown.{Among}
 use Rattle.name_rules.specs.Tree.{HasName, IsShown, ShownBy}
-use Rattle.name_rules.specs.Examples.{AloneIsShown, Among, ChildOfPresent, ChildOfRemoved, ComesFirst, MatchingNames, PendingComesFirst, capital, child, removed, small, two_puts}
+use Rattle.name_rules.specs.Examples.{AloneIsShown, ChildOfPresent, ChildOfRemoved, ComesFirst, MatchingNames, PendingComesFirst, capital, child, removed, small, two_puts}
 
 not_true : {P : Type 0} → true ≡ false → P
 not_true e = absurd (cc)

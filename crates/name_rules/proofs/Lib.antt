@@ -1,5 +1,12 @@
 mod Made
 mod Examples
 pub mod Cases
-pub mod Shown
+pub mod Showing
 pub mod Parents
+pub mod Lists
+pub mod Ranks
+pub mod Places
+pub mod Children
+pub mod Flags
+pub mod Descending
+pub mod Found

@@ -1,7 +1,6 @@
 -- Two small sets of records and a small journal, computed.
 use Rattle.std.specs.Prelude.{◌≡◌, ◌↔◌, ℕ, Bool, true, false, List, [], ◌∷◌, Option, replicate}
 use Rattle.frs_base.specs.Identifiers.{content_set}
-use Rattle.frs_base.specs.Options.{In}
 use Rattle.frs_base.specs.declared.sum.Sum.{Sum}
 use Rattle.frs_base.specs.declared.version.Uid.{Uid}
 use Rattle.win_order.specs.declared.update.Update.{Update}
@@ -9,6 +8,7 @@ use Rattle.vol_state.specs.Conditions.{root_uid}
 use Rattle.vol_state.specs.Sums.{no_sum}
 use Rattle.vol_state.specs.declared.command.VolCmd.TheVariants.{PutNew, PutOver}
 use Rattle.vol_state.specs.Maps.{Maps, fresh_maps, write}
+use Rattle.name_rules.specs.Shown.{Among}
 use Rattle.name_rules.specs.Next.{IsAnswer, Next, NotYet}
 use Rattle.name_rules.specs.Tree.{IsShown}
 
@@ -30,10 +30,6 @@ record_of present attributes db usn parent name clock = record {
   name = name;
   flags = 0;
 }
-
--- these and no others
-abbrev pub Among : List Update → Update → Type 0
-Among records u = In u records
 
 -- ---- matching names
 

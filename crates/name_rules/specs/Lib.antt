@@ -2,3 +2,4 @@ pub mod Recorded
 pub mod Tree
 pub mod Next
 pub mod Examples
+pub mod Shown

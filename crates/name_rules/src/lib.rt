@@ -5,9 +5,12 @@
 //! that they keep, and [`is_file`].
 #![tactic(auto)]
 
+mod descent;
 mod kinds;
 mod laws;
+mod named;
 
+pub use descent::shown;
 pub use kinds::is_file;
 pub use laws::{
     children_of_what_is_removed_are_hidden, made_updates_have_their_version,

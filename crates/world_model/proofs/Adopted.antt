@@ -12,7 +12,7 @@ use Rattle.record_db.specs.Staged.{with_uid}
 use Rattle.record_db.proofs.Keys.{uid_cases}
 use Rattle.name_rules.specs.Next.{IsPending}
 use Rattle.name_rules.specs.Tree.{is_file, kind_of}
-use Rattle.name_rules.proofs.Shown.{AreSame}
+use Rattle.name_rules.proofs.Showing.{AreSame}
 use Rattle.world_model.specs.World.{Member}
 use Rattle.world_model.specs.Events.{adopted_by, unstaged_at}
 use Rattle.world_model.specs.Invariant.{HasSum, MemberIsSound}

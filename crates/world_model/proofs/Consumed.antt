@@ -23,7 +23,7 @@ use Rattle.name_rules.specs.Next.{IsPending}
 use Rattle.name_rules.specs.Recorded.{is_deletion, object_update, recorded_by, recorded_of, tombstone}
 use Rattle.name_rules.specs.Tree.{is_file, kind_of}
 use Rattle.name_rules.proofs.Cases.{made_by}
-use Rattle.name_rules.proofs.Shown.{AreSame}
+use Rattle.name_rules.proofs.Showing.{AreSame}
 use Rattle.world_model.specs.World.{Member}
 use Rattle.world_model.specs.Events.{consumed_by}
 use Rattle.world_model.specs.Invariant.{HasSum, JournalIsTrue, MemberIsSound, NumbersAreFresh}

@@ -13,7 +13,7 @@ use Rattle.record_db.specs.Records.{Covered, Has, IsHeld, IsRecord, Versions}
 use Rattle.record_db.proofs.Best.{best_one, held_is}
 use Rattle.record_db.proofs.Keys.{same_gvsn_is, same_gvsn_refl, uid_cases}
 use Rattle.name_rules.specs.Tree.{HasName, IsShown, ShownBy}
-use Rattle.name_rules.proofs.Shown.{shown_record}
+use Rattle.name_rules.proofs.Showing.{shown_record}
 use Rattle.world_model.proofs.Facts.{true_false}
 
 -- ---- what can be told

@@ -8,7 +8,7 @@ use Rattle.vol_state.specs.Maps.{Maps}
 use Rattle.name_rules.specs.Recorded.{parent_uid}
 use Rattle.name_rules.specs.Tree.{IsShown}
 use Rattle.name_rules.specs.Next.{NothingToErase, NothingToMake, NothingToPark, NothingToPlace, NothingToRewrite, NothingToUnstage}
-use Rattle.name_rules.proofs.Shown.{shown_record}
+use Rattle.name_rules.proofs.Showing.{shown_record}
 use Rattle.world_model.specs.World.{IsRecordOf, fresh_world}
 use Rattle.world_model.specs.Due.{Sees, View, due}
 use Rattle.world_model.specs.Laws.{DrainedWhereNothingIsDue, FreshMembersAreDrained}

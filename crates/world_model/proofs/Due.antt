@@ -24,7 +24,7 @@ use Rattle.name_rules.specs.Recorded.{base_fence, is_deletion, parent_uid}
 use Rattle.name_rules.specs.Tree.{IsShown, is_file, kind_of}
 use Rattle.name_rules.specs.Next.{IsInPlace, IsQuiet, Step as InstallStep}
 use Rattle.name_rules.proofs.Cases.{made_by}
-use Rattle.name_rules.proofs.Shown.{AreSame, same_back, shown_record, shown_same}
+use Rattle.name_rules.proofs.Showing.{AreSame, same_back, shown_record, shown_same}
 use Rattle.world_model.specs.World.{Member, World, IsRecordOf, with_member}
 use Rattle.world_model.specs.Events.{Install, Records, Step, consumed_by, consumes, operated, unstaged_at}
 use Rattle.world_model.specs.Invariant.{Invariant, NumbersAreFresh, PlacesAreATree}

@@ -20,7 +20,7 @@ use Rattle.vol_state.specs.Sums.{content_sum}
 use Rattle.vol_state.specs.Tables.{IsAt, IsBeneath, IsFree}
 use Rattle.name_rules.specs.Next.{IsCandidate, IsPending, IsQuiet, Next as InstallNext, Step as InstallStep, place_lt, place_of}
 use Rattle.name_rules.specs.Recorded.{parent_uid}
-use Rattle.name_rules.proofs.Shown.{shown_record}
+use Rattle.name_rules.proofs.Showing.{shown_record}
 use Rattle.world_model.proofs.Changing.{at_other}
 use Rattle.world_model.proofs.Computed.{held_by, none_shown, quiet_written, record_by, tops}
 use Rattle.world_model.proofs.Facts.{at_case, none_some, some_is, true_false}

@@ -12,7 +12,7 @@ use Rattle.record_db.proofs.Keys.{key_irrefl}
 use Rattle.record_db.proofs.Best.{beats_all}
 use Rattle.name_rules.specs.Recorded.{base_fence, recorded_of}
 use Rattle.name_rules.specs.Next.{IsDue, IsPending, IsQuiet}
-use Rattle.name_rules.proofs.Shown.{AreSame, same_back, shown_same}
+use Rattle.name_rules.proofs.Showing.{AreSame, same_back, shown_same}
 use Rattle.world_model.specs.World.{Member, World}
 use Rattle.world_model.specs.Events.{Event, IsOfFile, IsOfPage, Step, Local, Consume, SendVector, SendUpdate, Adopt, Finish, Install, Unstage, adopted_by, consumed_by, consumes, finished_by, operated, unstaged_at}
 use Rattle.world_model.specs.Invariant.{VersionsAreMade}

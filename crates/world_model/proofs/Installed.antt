@@ -19,7 +19,7 @@ use Rattle.vol_state.specs.Tables.{IsAt, IsEmpty, IsNew, IsReplica}
 use Rattle.record_db.specs.Records.{Has}
 use Rattle.name_rules.specs.Next.{IsDue, IsPending, IsQuiet}
 use Rattle.name_rules.specs.Tree.{is_file, kind_of}
-use Rattle.name_rules.proofs.Shown.{shown_record}
+use Rattle.name_rules.proofs.Showing.{shown_record}
 use Rattle.world_model.specs.World.{Member}
 use Rattle.world_model.specs.Events.{operated}
 use Rattle.world_model.specs.Invariant.{HasSum, JournalIsTrue, MemberIsSound, PlacesAreATree}

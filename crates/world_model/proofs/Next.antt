@@ -16,7 +16,7 @@ use Rattle.record_db.proofs.Sets.{in_after, in_before}
 use Rattle.name_rules.specs.Recorded.{parent_uid}
 use Rattle.name_rules.specs.Tree.{IsShown, is_file}
 use Rattle.name_rules.specs.Next.{IsCandidate, IsDrained, IsInPlace, IsNext, IsTurn, NothingToErase, NothingToMake, NothingToPark, NothingToPlace, NothingToRewrite, NothingToUnstage, place_lt, place_of, Step as InstallStep}
-use Rattle.name_rules.proofs.Shown.{shown_record}
+use Rattle.name_rules.proofs.Showing.{shown_record}
 use Rattle.world_model.specs.World.{IsRecordOf}
 use Rattle.world_model.specs.Invariant.{NumbersAreFresh}
 use Rattle.world_model.specs.Laws.{DrainedMembersHaveNone, NextStepsAreOne, QuietMembersGoOn}

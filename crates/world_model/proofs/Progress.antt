@@ -20,7 +20,7 @@ use Rattle.name_rules.specs.Recorded.{parent_uid}
 use Rattle.name_rules.specs.Tree.{HasName, IsShown, ShownBy, is_file, kind_of}
 use Rattle.name_rules.specs.Next.{IsQuiet, NothingToMake, NothingToPark, Step as InstallStep}
 use Rattle.name_rules.proofs.Parents.{kind_is, parent_is, parent_root}
-use Rattle.name_rules.proofs.Shown.{shown_record}
+use Rattle.name_rules.proofs.Showing.{shown_record}
 use Rattle.world_model.specs.World.{Member, World, IsRecordOf}
 use Rattle.world_model.specs.Invariant.{HasSum, IsSound}
 use Rattle.world_model.specs.Laws.{IsDone, NextStepsCanBeDone}

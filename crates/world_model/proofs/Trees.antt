@@ -18,7 +18,7 @@ use Rattle.name_rules.specs.Recorded.{hash_of, parent_uid}
 use Rattle.name_rules.specs.Tree.{IsRow, IsShown, IsUnder, IsVolumeRow, StandsAt}
 use Rattle.name_rules.specs.Next.{IsDrained}
 use Rattle.name_rules.proofs.Parents.{kind_is, parent_is, parent_root}
-use Rattle.name_rules.proofs.Shown.{AreSame, row_same, same_back, shown_record}
+use Rattle.name_rules.proofs.Showing.{AreSame, row_same, same_back, shown_record}
 use Rattle.world_model.specs.World.{Member}
 use Rattle.world_model.specs.Invariant.{IsSound}
 use Rattle.world_model.specs.Laws.{DrainedVolumesAreTrees, EqualVectorsHaveEqualTrees}

@@ -14,7 +14,7 @@ use Rattle.record_db.proofs.Keys.{uid_cases}
 use Rattle.name_rules.specs.Recorded.{parent_uid}
 use Rattle.name_rules.specs.Tree.{IsShown, is_file}
 use Rattle.name_rules.specs.Next.{Step as InstallStep}
-use Rattle.name_rules.proofs.Shown.{shown_record}
+use Rattle.name_rules.proofs.Showing.{shown_record}
 use Rattle.world_model.specs.World.{World, IsRecordOf}
 use Rattle.world_model.specs.Events.{Consume, Install, Unstage}
 use Rattle.world_model.specs.Invariant.{Invariant, NumbersAreFresh, PlacesAreATree}
