@@ -11,3 +11,4 @@ pub mod Sound
 pub mod Replay
 pub mod Given
 pub mod Laws
+pub mod Texts

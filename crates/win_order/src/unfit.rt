@@ -36,15 +36,19 @@ pub enum Unfit {
 }
 
 impl fmt::Display for Unfit {
+    ghost use Rattle.std.specs.Prelude.{Some};
+    ghost use Rattle.win_order.specs.Texts.{unfit_text};
+
+    ghost output = { λ why. Some (unfit_text why) };
+
     fn fmt<W: fmt::Write>(&self, f: &mut fmt::Formatter<W>) -> fmt::Result {
-        let why = match self {
-            Unfit::WrongSet => "of another content set",
-            Unfit::Compressed => "a compressed stream",
-            Unfit::Skewed => "a fence or clock too far ahead",
-            Unfit::Version => "a version that no journal gives",
-            Unfit::Root => "of the root",
-        };
-        write!(f, "{why}")
+        match self {
+            Unfit::WrongSet => write!(f, "of another content set"),
+            Unfit::Compressed => write!(f, "a compressed stream"),
+            Unfit::Skewed => write!(f, "a fence or clock too far ahead"),
+            Unfit::Version => write!(f, "a version that no journal gives"),
+            Unfit::Root => write!(f, "of the root"),
+        }
     }
 }
 
