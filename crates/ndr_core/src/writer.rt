@@ -1,5 +1,5 @@
 // Writing items, one behind the other.
-ghost use Rattle.std.specs.Prelude.{◌≡◌, ◌<◌, ◌⊎◌, IfOk, OnOk, [], length};
+ghost use Rattle.std.specs.Prelude.{◌≡◌, ◌<◌, ◌⊎◌, OnOk, [], length};
 ghost use Rattle.std.specs.Int.{w8, w16, w32, w64};
 ghost use Rattle.ndr_core.specs.Items.{bytes_of, chunk, number, number_at, padded, skip};
 ghost use Rattle.ndr_core.specs.Calls.{Writes};
@@ -43,19 +43,12 @@ impl Writer {
         }
     }
 
-    /// No bytes, with room for so many.
-    pub fn with_capacity(alloc: Global, capacity: usize) -> Result<Writer, AllocError>
-        ensures { IfOk result (λ w. w ≡ []) }
+    /// These bytes, behind which is written: a vector without any, but with room, spares what it takes
+    /// to find the room bit by bit.
+    pub fn over(bytes: Vec<u8>) -> Writer
+        ensures { result ≡ bytes.items }
     {
-        let bytes = Vec::with_capacity(alloc, capacity)?;
-        Ok(Writer { bytes })
-    }
-
-    /// Makes room for so many bytes more.
-    pub fn reserve(&mut self, more: usize) -> Result<(), AllocError>
-        ensures { self.new ≡ self.old }
-    {
-        self.bytes.reserve(more)
+        Writer { bytes }
     }
 
     /// The bytes.

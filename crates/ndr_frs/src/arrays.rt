@@ -19,15 +19,6 @@ const PAGE: u32 = 256;
 /// The most bytes of a file in one reply.
 const CHUNK: u32 = 32_768;
 
-/// How many bytes an interval has.
-const INTERVAL: usize = 32;
-
-/// Room for an update: its fields, and a name of some thirty units.
-const UPDATE: usize = 256;
-
-/// Room for what stands around an array.
-const AROUND: usize = 64;
-
 /// The count of an array that was told before. Another is refused where it begins.
 pub(crate) fn take_said(r: &mut Reader, limit: u32, said: u32) -> Result<(), NdrBad>
     ensures { Reads (λ x. tt) (fixed 4 said (conformant limit)) result r.old r.new }
@@ -51,12 +42,11 @@ pub(crate) fn take_intervals(
     Ok(List::of(take_many::<IntervalItem>(alloc, r, count)?))
 }
 
-/// Writes intervals behind their count, for all of which room is made at once.
+/// Writes intervals behind their count.
 pub(crate) fn put_intervals(out: &mut Writer, intervals: &[Interval]) -> Result<(), AllocError>
     requires { length intervals.now ≤ 131072 }
     ensures { OnOk result (out.new ≡ (intervals_item 0).appends out.old intervals.now) }
 {
-    out.reserve(intervals.len() * INTERVAL + AROUND)?;
     out.put_conformant(intervals.len() as u32)?;
     put_many::<IntervalItem>(out, intervals)
 }
@@ -71,7 +61,7 @@ pub(crate) fn take_updates(alloc: Global, r: &mut Reader) -> Result<(u32, List<U
     Ok((maximum, updates))
 }
 
-/// Writes a page, for which room is made at once.
+/// Writes a page.
 pub(crate) fn put_updates(
     out: &mut Writer,
     maximum: u32,
@@ -80,7 +70,6 @@ pub(crate) fn put_updates(
     requires { length updates.now ≤ 256 }
     ensures { OnOk result (out.new ≡ updates_item.appends out.old (maximum, updates.now)) }
 {
-    out.reserve(updates.len() * UPDATE + AROUND)?;
     out.put_conformant(maximum)?;
     out.put_varying(updates.len() as u32)?;
     put_many::<UpdateItem>(out, updates)
@@ -96,12 +85,11 @@ pub(crate) fn take_bytes(alloc: Global, r: &mut Reader) -> Result<(u32, Bytes), 
     Ok((maximum, bytes))
 }
 
-/// Writes bytes of a file, for which room is made at once.
+/// Writes bytes of a file.
 pub(crate) fn put_bytes(out: &mut Writer, maximum: u32, bytes: &[u8]) -> Result<(), AllocError>
     requires { length bytes.now ≤ 32768 }
     ensures { OnOk result (out.new ≡ bytes_item.appends out.old (maximum, bytes.now)) }
 {
-    out.reserve(bytes.len() + AROUND)?;
     out.put_conformant(maximum)?;
     out.put_varying(bytes.len() as u32)?;
     out.put_bytes(bytes)

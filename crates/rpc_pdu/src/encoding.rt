@@ -90,7 +90,7 @@ fn write_unsized(alloc: Global, pdu: &Pdu) -> Result<Vec<u8>, AllocError>
     ensures { IfOk result (λ bytes. bytes.items ≡ encoded_as pdu.now 0) }
 {
     let room = stub_length(&pdu.body).saturating_add(WITHOUT_STUB);
-    let mut out = Writer::with_capacity(alloc, room)?;
+    let mut out = Writer::over(Vec::with_capacity(alloc, room)?);
     put_header(&mut out, &header_for(pdu, 0))?;
     put_body(&mut out, &pdu.body)?;
     Ok(out.into_vec())

@@ -73,7 +73,6 @@ fn put_numbers(out: &mut Writer) -> Result<(), AllocError> {
 }
 
 fn put_arrays(out: &mut Writer) -> Result<(), AllocError> {
-    out.reserve(32)?;
     out.put_conformant(3)?;
     out.put_varying(2)?;
     out.put_unique(true)?;
@@ -86,7 +85,7 @@ fn put_arrays(out: &mut Writer) -> Result<(), AllocError> {
 
 #[test]
 fn items_are_written(rt: HostRuntime) -> Result<(), Fail> {
-    let mut out = Writer::with_capacity(rt.alloc(), 8)?;
+    let mut out = Writer::over(Vec::with_capacity(rt.alloc(), 8)?);
     assert!(rt; put_numbers(&mut out).is_ok());
     assert!(rt; put_arrays(&mut out).is_ok());
     assert!(rt; out.into_vec().as_slice() == ITEMS.as_slice());
