@@ -3,3 +3,4 @@ pub mod Tree
 pub mod Next
 pub mod Examples
 pub mod Shown
+pub mod Steps

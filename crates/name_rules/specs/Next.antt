@@ -12,6 +12,10 @@ use Rattle.vol_state.specs.State.{uid_of}
 use Rattle.vol_state.specs.Sums.{content_sum}
 use Rattle.vol_state.specs.Maps.{Maps}
 use Rattle.vol_state.specs.Tables.{IsAt, IsNew}
+pub use Rattle.name_rules.specs.declared.step.Step.{Step}
+pub use Rattle.name_rules.specs.declared.step.Step.TheVariants.{Park, Erase, Make, Rewrite, Place, Unstage, Skip}
+pub use Rattle.name_rules.specs.declared.step.Next.{Next}
+pub use Rattle.name_rules.specs.declared.step.Next.TheVariants.{Do, Drained, NotYet}
 use Rattle.name_rules.specs.Recorded.{parent_uid}
 use Rattle.name_rules.specs.Tree.{IsShown, is_file, kind_of}
 
@@ -35,16 +39,6 @@ pub record IsFirstPending (consumed : ℕ) (m : Maps) (usn : ℕ) : Type 0 where
   pub least : (other : ℕ) → IsPendingAt consumed m other → usn ≤ other
 
 -- ---- steps
-
--- a step for a file, or for the journal record with a USN
-pub data Step : Type 0 where
-  Park : Uid → Step
-  Erase : Uid → Step
-  Make : Uid → Step
-  Rewrite : Uid → Step
-  Place : Uid → Step
-  Unstage : Uid → Step
-  Skip : ℕ → Step
 
 -- the object's record is shown at exactly this place
 abbrev pub IsInPlace : (Update → Type 0) → ℕ → Maps → Object → ℕ × List ℕ → Type 0
@@ -122,12 +116,6 @@ place_lt a b = nat_lt a.0 b.0 || (a.0 == b.0 && uid_lt a.1 b.1)
 pub record IsNext (Records : Update → Type 0) (own : ℕ) (m : Maps) (staged : Uid → Option Sum) (consumed : ℕ) (step : Step) : Type 0 where
   pub candidate : IsCandidate Records own m staged consumed step
   pub first : (other : Step) → IsCandidate Records own m staged consumed other → place_lt (place_of other) (place_of step) ≡ false
-
--- what a member does next: a step, nothing, or none before the local journal record with this USN is consumed
-pub data Next : Type 0 where
-  Do : Step → Next
-  Drained : Next
-  NotYet : ℕ → Next
 
 -- what it answers when it is asked
 abbrev pub IsAnswer : (Update → Type 0) → ℕ → Maps → (Uid → Option Sum) → ℕ → Next → Type 0

@@ -2,13 +2,14 @@
 //!
 //! The definitions stand here: what a journal record makes (`specs/Recorded.antt`), which records are
 //! shown, and trees (`specs/Tree.antt`), and the installer's next step (`specs/Next.antt`); with laws
-//! that they keep, and [`is_file`].
+//! that they keep. [`shown`] finds which records are shown, and [`Step`] is a step of the installer.
 #![tactic(auto)]
 
 mod descent;
 mod kinds;
 mod laws;
 mod named;
+mod step;
 
 pub use descent::shown;
 pub use kinds::is_file;
@@ -17,3 +18,4 @@ pub use laws::{
     matching_names_show_the_greatest, nothing_is_made_of_a_replica_record,
     pending_records_come_first,
 };
+pub use step::{Next, Step, Subject};
