@@ -22,7 +22,9 @@ use Rattle.record_db.proofs.Sets.{in_before, plus_old}
 use Rattle.record_db.proofs.Keys.{same_uid_is, uid_cases}
 use Rattle.name_rules.specs.Recorded.{base_fence, is_deletion, parent_uid}
 use Rattle.name_rules.specs.Tree.{IsShown, is_file, kind_of}
-use Rattle.name_rules.specs.Next.{IsInPlace, IsQuiet, Step as InstallStep}
+use Rattle.name_rules.specs.Next.{IsInPlace, IsQuiet}
+use Rattle.name_rules.specs.declared.step.Step.{Step as InstallStep}
+use Rattle.name_rules.specs.declared.step.Step.TheVariants as install_step
 use Rattle.name_rules.proofs.Cases.{made_by}
 use Rattle.name_rules.proofs.Showing.{AreSame, same_back, shown_record, shown_same}
 use Rattle.world_model.specs.World.{Member, World, IsRecordOf, with_member}
@@ -503,33 +505,33 @@ skips w d h = subst (λ (x : Member). Lowers (SeesAt w d) (Sees (IsRecord (w.all
     alike = record { to = λ v r. best_same v stays (consume_none w d h.versions) r; back = λ v r. best_same v (consume_none w d h.versions) stays r }
 
 pub steps_lower : StepsLowerWhatIsDue
-steps_lower w h d (InstallStep.Park file) new (op, (f, o, at, is, op_is), step) = by (subst (λ c. Step w d (Install c) new) op_is step)
+steps_lower w h d (install_step.Park file) new (op, (f, o, at, is, op_is), step) = by (subst (λ c. Step w d (Install c) new) op_is step)
   where
     by : Step w d (Install (cmd.Park f)) new → Lowers (SeesAt w d) (SeesAt new d) (same_uid file)
     by (quiet, (q, p, there, place, out), ok, now) =
         op_lowers w d (cmd.Park f) (same_uid file) new (quiet, (q, p, there, place, out), ok, now)
         (parks (IsRecordOf w d) d (w.at d).volume (w.at d).staged f q p file (records_one w d h) (h.members d).places there (ap (uid_of d) (some_is q o (sym there ∙ at)) ∙ is) place out)
-steps_lower w h d (InstallStep.Erase file) new (op, (f, o, at, is, op_is), step) = by (subst (λ c. Step w d (Install c) new) op_is step)
+steps_lower w h d (install_step.Erase file) new (op, (f, o, at, is, op_is), step) = by (subst (λ c. Step w d (Install c) new) op_is step)
   where
     by : Step w d (Install (cmd.Erase f)) new → Lowers (SeesAt w d) (SeesAt new d) (same_uid file)
     by (quiet, (q, u, there, r, id, absent), (z, there', limbo, bare), now) =
         let is' : uid_of d q ≡ file = ap (uid_of d) (some_is q o (sym there ∙ at)) ∙ is in
         op_lowers w d (cmd.Erase f) (same_uid file) new (quiet, (q, u, there, r, id, absent), (z, there', limbo, bare), now)
         (erases (IsRecordOf w d) d (w.at d).volume (w.at d).staged f q u file (records_one w d h) (h.members d).places there is' (ap (λ k. k.place) (some_is q z (sym there ∙ there')) ∙ limbo) bare r (id ∙ is') absent)
-steps_lower w h d (InstallStep.Make file) new (op, (r, bytes, is_record, id, op_is), step) = by (subst (λ c. Step w d (Install c) new) op_is step)
+steps_lower w h d (install_step.Make file) new (op, (r, bytes, is_record, id, op_is), step) = by (subst (λ c. Step w d (Install c) new) op_is step)
   where
     by : Step w d (Install (cmd.Make file (kind_of r) bytes)) new → Lowers (SeesAt w d) (SeesAt new d) (same_uid file)
     by (quiet, (u, shown, is, kind, content), (root, none, bare), now) =
         op_lowers w d (cmd.Make file (kind_of r) bytes) (same_uid file) new (quiet, (u, shown, is, kind, content), (root, none, bare), now)
         (makes_one (IsRecordOf w d) d (w.at d).volume (w.at d).consumed (w.at d).staged (kind_of r) bytes u file (records_one w d h) (h.members d).places (h.members d).numbers none shown is (λ i. (content i).1))
-steps_lower w h d (InstallStep.Rewrite file) new (op, (f, o, bytes, at, is, op_is), step) = by (subst (λ c. Step w d (Install c) new) op_is step)
+steps_lower w h d (install_step.Rewrite file) new (op, (f, o, bytes, at, is, op_is), step) = by (subst (λ c. Step w d (Install c) new) op_is step)
   where
     by : Step w d (Install (cmd.Rewrite f bytes)) new → Lowers (SeesAt w d) (SeesAt new d) (same_uid file)
     by (quiet, (q, u, there, r, id, is_present, differs, content, sum), ok, now) =
         let is' : uid_of d q ≡ file = ap (uid_of d) (some_is q o (sym there ∙ at)) ∙ is in
         op_lowers w d (cmd.Rewrite f bytes) (same_uid file) new (quiet, (q, u, there, r, id, is_present, differs, content, sum), ok, now)
         (rewrites (IsRecordOf w d) d (w.at d).volume (w.at d).staged f q bytes u file (records_one w d h) (h.members d).places there is' r (id ∙ is') is_present differs sum)
-steps_lower w h d (InstallStep.Place file) new (op, (f, o, v, parent, at, is, r, id, up, op_is), step) = by (subst (λ c. Step w d (Install c) new) op_is step)
+steps_lower w h d (install_step.Place file) new (op, (f, o, v, parent, at, is, r, id, up, op_is), step) = by (subst (λ c. Step w d (Install c) new) op_is step)
   where
     by : Step w d (Install (cmd.Place f parent v.name)) new → Lowers (SeesAt w d) (SeesAt new d) (same_uid file)
     by (quiet, (q, u, there, shown, id', up', name), (z, there', limbo, dir, apart, free), now) =
@@ -537,7 +539,7 @@ steps_lower w h d (InstallStep.Place file) new (op, (f, o, v, parent, at, is, r,
         op_lowers w d (cmd.Place f parent v.name) (same_uid file) new (quiet, (q, u, there, shown, id', up', name), (z, there', limbo, dir, apart, free), now)
         (places (IsRecordOf w d) d (w.at d).volume (w.at d).staged f q parent v.name u file (records_one w d h) (h.members d).places there is' (ap (λ k. k.place) (some_is q z (sym there ∙ there')) ∙ limbo)
         shown (id' ∙ is') up' name)
-steps_lower w h d (InstallStep.Unstage file) new (f, o, at, is, staged, now) =
+steps_lower w h d (install_step.Unstage file) new (f, o, at, is, staged, now) =
     subst (λ z. Lowers (SeesAt w d) (SeesAt z d) (same_uid file)) (sym now) (lowers_at w d (unstaged_at file (w.at d)) (same_uid file) (unstages (IsRecordOf w d) d (w.at d).volume (w.at d).staged file o.sum staged))
-steps_lower w h d (InstallStep.Skip usn) new (moment, is, quiet, (early, made, records, now)) =
+steps_lower w h d (install_step.Skip usn) new (moment, is, quiet, (early, made, records, now)) =
     subst (λ z. Lowers (SeesAt w d) (SeesAt z d) (λ uid. false)) (sym (now ∙ ap (consumes w d) (passes w d moment made quiet records))) (skips w d h)

@@ -18,7 +18,11 @@ use Rattle.vol_state.specs.declared.object.Object.{Object}
 use Rattle.vol_state.specs.State.{uid_of}
 use Rattle.vol_state.specs.Sums.{content_sum}
 use Rattle.vol_state.specs.Tables.{IsAt, IsBeneath, IsFree}
-use Rattle.name_rules.specs.Next.{IsCandidate, IsPending, IsQuiet, Next as InstallNext, Step as InstallStep, place_lt, place_of}
+use Rattle.name_rules.specs.Next.{IsCandidate, IsPending, IsQuiet, place_lt, place_of}
+use Rattle.name_rules.specs.declared.step.Next.{Next as InstallNext}
+use Rattle.name_rules.specs.declared.step.Step.{Step as InstallStep}
+use Rattle.name_rules.specs.declared.step.Step.TheVariants as install_step
+use Rattle.name_rules.specs.declared.step.Next.TheVariants as install_next
 use Rattle.name_rules.specs.Recorded.{parent_uid}
 use Rattle.name_rules.proofs.Showing.{shown_record}
 use Rattle.world_model.proofs.Changing.{at_other}
@@ -295,25 +299,25 @@ only_first : (known : Versions) (u : Update) → IsRecord (first ∷ []) known u
 only_first known u r = elim r.among.0 [ inl e ↦ e | inr h ↦ absurd h ]
 
 -- the file is to be made
-makes_next : IsAnswerAt t6 2 (InstallNext.Do (InstallStep.Make uid_p))
+makes_next : IsAnswerAt t6 2 (install_next.Do (install_step.Make uid_p))
 makes_next = ((λ n r past at. empty r at), record { candidate = (first, first_shown _ refl, refl, λ f o at. empty o at); first = before })
   where
     before : (other : InstallStep) → IsCandidate (IsRecordOf t6 2) 2 (t6.at 2).volume (t6.at 2).staged (t6.at 2).consumed other → place_lt (place_of other) (2, uid_p) ≡ false
-    before (InstallStep.Park uid) (f, o, p, at, id, place, n) = empty o at
-    before (InstallStep.Erase uid) (f, o, u, at, id, q, is, gone) = empty o at
-    before (InstallStep.Make uid) (u, s, id, n) =
+    before (install_step.Park uid) (f, o, p, at, id, place, n) = empty o at
+    before (install_step.Erase uid) (f, o, u, at, id, q, is, gone) = empty o at
+    before (install_step.Make uid) (u, s, id, n) =
         subst (λ z. place_lt (2, z) (2, uid_p) ≡ false) (sym (ap (λ v. v.uid) (only_first _ u (shown_record (IsRecordOf t6 2) u s))) ∙ id) refl
-    before (InstallStep.Rewrite uid) (f, o, u, at, id, q, is, file, n) = empty o at
-    before (InstallStep.Place uid) (f, o, u, at, id, limbo, s, is) = empty o at
-    before (InstallStep.Unstage uid) (f, o, at, id, is) = empty o at
-    before (InstallStep.Skip usn) c = refl
+    before (install_step.Rewrite uid) (f, o, u, at, id, q, is, file, n) = empty o at
+    before (install_step.Place uid) (f, o, u, at, id, limbo, s, is) = empty o at
+    before (install_step.Unstage uid) (f, o, at, id, is) = empty o at
+    before (install_step.Skip usn) c = refl
 
 -- the file in its place
 installed_file : Object
 installed_file = record { fid = 1; place = Some (0, x); kind = File; bytes = []; sum = content_sum File []; born = 9; tag = Some uid_p; last_local = 0 }
 
 -- nothing is left to do
-drained_then : IsAnswerAt t11 2 InstallNext.Drained
+drained_then : IsAnswerAt t11 2 install_next.Drained
 unfolding installed_file
 drained_then = record {
   quiet = λ n r past at. absurd (none_some r (sym (at_other (t7.at 2).volume.entry 10 _ n (λ e. omega (arith, past, e)) ∙ at_other fresh_maps.entry 9 _ n (λ e. omega (arith, past, e))) ∙ at));

@@ -15,7 +15,9 @@ use Rattle.record_db.proofs.Keys.{uid_cases}
 use Rattle.record_db.proofs.Sets.{in_after, in_before}
 use Rattle.name_rules.specs.Recorded.{parent_uid}
 use Rattle.name_rules.specs.Tree.{IsShown, is_file}
-use Rattle.name_rules.specs.Next.{IsCandidate, IsDrained, IsInPlace, IsNext, IsTurn, NothingToErase, NothingToMake, NothingToPark, NothingToPlace, NothingToRewrite, NothingToUnstage, place_lt, place_of, Step as InstallStep}
+use Rattle.name_rules.specs.Next.{IsCandidate, IsDrained, IsInPlace, IsNext, IsTurn, NothingToErase, NothingToMake, NothingToPark, NothingToPlace, NothingToRewrite, NothingToUnstage, place_lt, place_of}
+use Rattle.name_rules.specs.declared.step.Step.{Step as InstallStep}
+use Rattle.name_rules.specs.declared.step.Step.TheVariants as install_step
 use Rattle.name_rules.proofs.Showing.{shown_record}
 use Rattle.world_model.specs.World.{IsRecordOf}
 use Rattle.world_model.specs.Invariant.{NumbersAreFresh}
@@ -47,23 +49,23 @@ same_version a b e f = grind (arith, nat_tests)
 -- the step that stands at a place
 step_at : ℕ → Uid → InstallStep
 step_at kind uid =
-    if kind == 0 then InstallStep.Park uid
-    else (if kind == 1 then InstallStep.Erase uid
-    else (if kind == 2 then InstallStep.Make uid
-    else (if kind == 3 then InstallStep.Rewrite uid
-    else (if kind == 4 then InstallStep.Place uid
-    else (if kind == 5 then InstallStep.Unstage uid
-    else InstallStep.Skip uid.version)))))
+    if kind == 0 then install_step.Park uid
+    else (if kind == 1 then install_step.Erase uid
+    else (if kind == 2 then install_step.Make uid
+    else (if kind == 3 then install_step.Rewrite uid
+    else (if kind == 4 then install_step.Place uid
+    else (if kind == 5 then install_step.Unstage uid
+    else install_step.Skip uid.version)))))
 
 stands_at : (s : InstallStep) → step_at (place_of s).0 (place_of s).1 ≡ s
 unfolding step_at
-stands_at (InstallStep.Park uid) = refl
-stands_at (InstallStep.Erase uid) = refl
-stands_at (InstallStep.Make uid) = refl
-stands_at (InstallStep.Rewrite uid) = refl
-stands_at (InstallStep.Place uid) = refl
-stands_at (InstallStep.Unstage uid) = refl
-stands_at (InstallStep.Skip usn) = refl
+stands_at (install_step.Park uid) = refl
+stands_at (install_step.Erase uid) = refl
+stands_at (install_step.Make uid) = refl
+stands_at (install_step.Rewrite uid) = refl
+stands_at (install_step.Place uid) = refl
+stands_at (install_step.Unstage uid) = refl
+stands_at (install_step.Skip usn) = refl
 
 -- two steps of which none comes before the other are one
 pub one_step : (a b : InstallStep) → place_lt (place_of a) (place_of b) ≡ false → place_lt (place_of b) (place_of a) ≡ false → a ≡ b
@@ -100,29 +102,29 @@ least P each (x ∷ steps) = by (each x) (least P each steps)
 -- ---- the steps that may be candidates
 
 steps_of : List Uid → ℕ → List InstallStep
-steps_of [] usn = InstallStep.Skip usn ∷ []
+steps_of [] usn = install_step.Skip usn ∷ []
 steps_of (uid ∷ uids) usn =
-    InstallStep.Park uid ∷ InstallStep.Erase uid ∷ InstallStep.Make uid ∷ InstallStep.Rewrite uid ∷ InstallStep.Place uid ∷ InstallStep.Unstage uid ∷ steps_of uids usn
+    install_step.Park uid ∷ install_step.Erase uid ∷ install_step.Make uid ∷ install_step.Rewrite uid ∷ install_step.Place uid ∷ install_step.Unstage uid ∷ steps_of uids usn
 
 -- each step for a file is among these
 record AreAmong (uid : Uid) (steps : List InstallStep) : Type 0 where
-  park : In (InstallStep.Park uid) steps
-  erase : In (InstallStep.Erase uid) steps
-  make : In (InstallStep.Make uid) steps
-  rewrite : In (InstallStep.Rewrite uid) steps
-  place : In (InstallStep.Place uid) steps
-  unstage : In (InstallStep.Unstage uid) steps
+  park : In (install_step.Park uid) steps
+  erase : In (install_step.Erase uid) steps
+  make : In (install_step.Make uid) steps
+  rewrite : In (install_step.Rewrite uid) steps
+  place : In (install_step.Place uid) steps
+  unstage : In (install_step.Unstage uid) steps
 
 are_among : (uid : Uid) (uids : List Uid) (usn : ℕ) → In uid uids → AreAmong uid (steps_of uids usn)
 unfolding steps_of
 are_among uid [] usn i = absurd i
 are_among uid (x ∷ uids) usn (inl e) = record {
-  park = inl (ap InstallStep.Park e);
-  erase = inr (inl (ap InstallStep.Erase e));
-  make = inr (inr (inl (ap InstallStep.Make e)));
-  rewrite = inr (inr (inr (inl (ap InstallStep.Rewrite e))));
-  place = inr (inr (inr (inr (inl (ap InstallStep.Place e)))));
-  unstage = inr (inr (inr (inr (inr (inl (ap InstallStep.Unstage e))))));
+  park = inl (ap install_step.Park e);
+  erase = inr (inl (ap install_step.Erase e));
+  make = inr (inr (inl (ap install_step.Make e)));
+  rewrite = inr (inr (inr (inl (ap install_step.Rewrite e))));
+  place = inr (inr (inr (inr (inl (ap install_step.Place e)))));
+  unstage = inr (inr (inr (inr (inr (inl (ap install_step.Unstage e))))));
 }
 are_among uid (x ∷ uids) usn (inr i) =
     let rest = are_among uid uids usn i in
@@ -138,7 +140,7 @@ are_among uid (x ∷ uids) usn (inr i) =
     behind : (s : InstallStep) → In s (steps_of uids usn) → In s (steps_of (x ∷ uids) usn)
     behind s i = inr (inr (inr (inr (inr (inr i)))))
 
-skip_among : (uids : List Uid) (usn : ℕ) → In (InstallStep.Skip usn) (steps_of uids usn)
+skip_among : (uids : List Uid) (usn : ℕ) → In (install_step.Skip usn) (steps_of uids usn)
 unfolding steps_of
 skip_among [] usn = inl refl
 skip_among (x ∷ uids) usn = inr (inr (inr (inr (inr (inr (skip_among uids usn))))))
@@ -227,85 +229,85 @@ module _ (R : Update → Type 0) (l : IsListed R) (own : ℕ) (m : Maps) (staged
       ]
 
   decided : (step : InstallStep) → Decided (Candidate step)
-  decided (InstallStep.Park uid) = decided_as (λ (f, o, at, id, (p, place, n)). (f, o, p, at, id, place, n)) (λ (f, o, p, at, id, place, n). (f, o, at, id, (p, place, n)))
+  decided (install_step.Park uid) = decided_as (λ (f, o, at, id, (p, place, n)). (f, o, p, at, id, place, n)) (λ (f, o, p, at, id, place, n). (f, o, at, id, (p, place, n)))
       (at_site uid (λ o. (p : ℕ × List ℕ) × (o.place ≡ Some p) × (IsInPlace R own m o p → ⊥)) misplaced)
-  decided (InstallStep.Erase uid) = decided_as (λ (f, o, at, id, (u, r, is, gone)). (f, o, u, at, id, r, is, gone)) (λ (f, o, u, at, id, r, is, gone). (f, o, at, id, (u, r, is, gone)))
+  decided (install_step.Erase uid) = decided_as (λ (f, o, at, id, (u, r, is, gone)). (f, o, u, at, id, r, is, gone)) (λ (f, o, u, at, id, r, is, gone). (f, o, at, id, (u, r, is, gone)))
       (at_site uid (λ o. (u : Update) × R u × (u.uid ≡ uid) × (u.present ≡ false)) (λ o. of_record R l uid (λ u. u.present ≡ false) (λ u r. false_decided u.present)))
     where
       false_decided : (b : Bool) → Decided (b ≡ false)
       false_decided true = inr (λ e. true_false true refl e)
       false_decided false = inl refl
-  decided (InstallStep.Make uid) = decided_as (λ ((u, s, id), n). (u, s, id, n)) (λ (u, s, id, n). ((u, s, id), n)) (and_decided (is_shown R l uid) (is_new uid))
-  decided (InstallStep.Rewrite uid) = decided_as (λ (f, o, at, id, (u, r, is, (file, n))). (f, o, u, at, id, r, is, file, n)) (λ (f, o, u, at, id, r, is, file, n). (f, o, at, id, (u, r, is, (file, n))))
+  decided (install_step.Make uid) = decided_as (λ ((u, s, id), n). (u, s, id, n)) (λ (u, s, id, n). ((u, s, id), n)) (and_decided (is_shown R l uid) (is_new uid))
+  decided (install_step.Rewrite uid) = decided_as (λ (f, o, at, id, (u, r, is, (file, n))). (f, o, u, at, id, r, is, file, n)) (λ (f, o, u, at, id, r, is, file, n). (f, o, at, id, (u, r, is, (file, n))))
       (at_site uid (λ o. (u : Update) × R u × (u.uid ≡ uid) × ((is_file u ≡ true) × (o.sum ≢ u.hash)))
       (λ o. of_record R l uid (λ u. (is_file u ≡ true) × (o.sum ≢ u.hash)) (λ u r. and_decided (true_decided (is_file u)) (not_decided (sum_decided o.sum u.hash)))))
-  decided (InstallStep.Place uid) = decided_as (λ (f, o, at, id, (limbo, (u, s, is))). (f, o, u, at, id, limbo, s, is)) (λ (f, o, u, at, id, limbo, s, is). (f, o, at, id, (limbo, (u, s, is))))
+  decided (install_step.Place uid) = decided_as (λ (f, o, at, id, (limbo, (u, s, is))). (f, o, u, at, id, limbo, s, is)) (λ (f, o, u, at, id, limbo, s, is). (f, o, at, id, (limbo, (u, s, is))))
       (at_site uid (λ o. (o.place ≡ None) × ((u : Update) × IsShown R u × (u.uid ≡ uid))) (λ o. and_decided (limbo_decided o.place) (is_shown R l uid)))
-  decided (InstallStep.Unstage uid) = at_site uid (λ o. staged uid ≡ Some o.sum) (λ o. some_decided (staged uid) o.sum)
-  decided (InstallStep.Skip usn) = by (m.entry usn) refl
+  decided (install_step.Unstage uid) = at_site uid (λ o. staged uid ≡ Some o.sum) (λ o. some_decided (staged uid) o.sum)
+  decided (install_step.Skip usn) = by (m.entry usn) refl
     where
       is_it : (a b : ℕ) → Decided (a ≡ b)
       is_it a b = decided_as (λ t. (grind (arith, nat_tests, t))) (λ e. (grind (arith, nat_tests, e))) (true_decided (eqb a b))
 
-      by : (x : Option VolRecord) → m.entry usn ≡ x → Decided (Candidate (InstallStep.Skip usn))
+      by : (x : Option VolRecord) → m.entry usn ≡ x → Decided (Candidate (install_step.Skip usn))
       by None e = inr (λ (r, is, at). none_some r (sym e ∙ at))
       by (Some r) e = decided_as (λ is. (r, is, e)) (λ (q, is, at). is) (is_it usn consumed)
 
   -- ---- where a kind has no candidate
 
-  no_park : ((uid : Uid) → Candidate (InstallStep.Park uid) → ⊥) → NothingToPark R own m
+  no_park : ((uid : Uid) → Candidate (install_step.Park uid) → ⊥) → NothingToPark R own m
   no_park none fid o p at place = elim (in_place o p) [ inl is ↦ is | inr n ↦ absurd (none (uid_of own o) (fid, o, p, at, refl, place, n)) ]
 
-  no_erase : ((uid : Uid) → Candidate (InstallStep.Erase uid) → ⊥) → NothingToErase R own m
+  no_erase : ((uid : Uid) → Candidate (install_step.Erase uid) → ⊥) → NothingToErase R own m
   no_erase none fid o u at r id = by u.present refl
     where
       by : (b : Bool) → u.present ≡ b → b ≡ true
       by true e = refl
       by false e = absurd (none (uid_of own o) (fid, o, u, at, refl, r, id, e))
 
-  no_make : ((uid : Uid) → Candidate (InstallStep.Make uid) → ⊥) → NothingToMake R own m
+  no_make : ((uid : Uid) → Candidate (install_step.Make uid) → ⊥) → NothingToMake R own m
   no_make none u s = elim (sites u.uid) [ inl (f, o, z) ↦ (f, o, z.there, z.is) | inr n ↦ absurd (none u.uid (u, s, refl, n)) ]
 
-  no_rewrite : ((uid : Uid) → Candidate (InstallStep.Rewrite uid) → ⊥) → NothingToRewrite R own m
+  no_rewrite : ((uid : Uid) → Candidate (install_step.Rewrite uid) → ⊥) → NothingToRewrite R own m
   no_rewrite none fid o u at r id file = elim (sum_decided o.sum u.hash) [ inl e ↦ e | inr n ↦ absurd (none (uid_of own o) (fid, o, u, at, refl, r, id, file, n)) ]
 
-  no_place : ((uid : Uid) → Candidate (InstallStep.Place uid) → ⊥) → NothingToPlace R own m
+  no_place : ((uid : Uid) → Candidate (install_step.Place uid) → ⊥) → NothingToPlace R own m
   no_place none fid o u at limbo s id = none (uid_of own o) (fid, o, u, at, refl, limbo, s, id)
 
-  no_unstage : ((uid : Uid) → Candidate (InstallStep.Unstage uid) → ⊥) → NothingToUnstage own m staged
+  no_unstage : ((uid : Uid) → Candidate (install_step.Unstage uid) → ⊥) → NothingToUnstage own m staged
   no_unstage none uid sum fid o is at id e = none uid (fid, o, at, id, is ∙ ap Some (sym e))
 
   -- ---- the next step has its turn
 
   turn : (step : InstallStep) → IsNext R own m staged consumed step → IsTurn R own m staged step
-  turn (InstallStep.Park uid) n = tt
-  turn (InstallStep.Erase uid) n = no_park (λ x c. true_false true refl (n.first (InstallStep.Park x) c))
-  turn (InstallStep.Make uid) n = (no_park (λ x c. true_false true refl (n.first (InstallStep.Park x) c)), no_erase (λ x c. true_false true refl (n.first (InstallStep.Erase x) c)))
-  turn (InstallStep.Rewrite uid) n = (
-    no_park (λ x c. true_false true refl (n.first (InstallStep.Park x) c)),
-    no_erase (λ x c. true_false true refl (n.first (InstallStep.Erase x) c)),
-    no_make (λ x c. true_false true refl (n.first (InstallStep.Make x) c)),
+  turn (install_step.Park uid) n = tt
+  turn (install_step.Erase uid) n = no_park (λ x c. true_false true refl (n.first (install_step.Park x) c))
+  turn (install_step.Make uid) n = (no_park (λ x c. true_false true refl (n.first (install_step.Park x) c)), no_erase (λ x c. true_false true refl (n.first (install_step.Erase x) c)))
+  turn (install_step.Rewrite uid) n = (
+    no_park (λ x c. true_false true refl (n.first (install_step.Park x) c)),
+    no_erase (λ x c. true_false true refl (n.first (install_step.Erase x) c)),
+    no_make (λ x c. true_false true refl (n.first (install_step.Make x) c)),
   )
-  turn (InstallStep.Place uid) n = (
-    no_park (λ x c. true_false true refl (n.first (InstallStep.Park x) c)),
-    no_erase (λ x c. true_false true refl (n.first (InstallStep.Erase x) c)),
-    no_make (λ x c. true_false true refl (n.first (InstallStep.Make x) c)),
-    no_rewrite (λ x c. true_false true refl (n.first (InstallStep.Rewrite x) c)),
+  turn (install_step.Place uid) n = (
+    no_park (λ x c. true_false true refl (n.first (install_step.Park x) c)),
+    no_erase (λ x c. true_false true refl (n.first (install_step.Erase x) c)),
+    no_make (λ x c. true_false true refl (n.first (install_step.Make x) c)),
+    no_rewrite (λ x c. true_false true refl (n.first (install_step.Rewrite x) c)),
   )
-  turn (InstallStep.Unstage uid) n = (
-    no_park (λ x c. true_false true refl (n.first (InstallStep.Park x) c)),
-    no_erase (λ x c. true_false true refl (n.first (InstallStep.Erase x) c)),
-    no_make (λ x c. true_false true refl (n.first (InstallStep.Make x) c)),
-    no_rewrite (λ x c. true_false true refl (n.first (InstallStep.Rewrite x) c)),
-    no_place (λ x c. true_false true refl (n.first (InstallStep.Place x) c)),
+  turn (install_step.Unstage uid) n = (
+    no_park (λ x c. true_false true refl (n.first (install_step.Park x) c)),
+    no_erase (λ x c. true_false true refl (n.first (install_step.Erase x) c)),
+    no_make (λ x c. true_false true refl (n.first (install_step.Make x) c)),
+    no_rewrite (λ x c. true_false true refl (n.first (install_step.Rewrite x) c)),
+    no_place (λ x c. true_false true refl (n.first (install_step.Place x) c)),
   )
-  turn (InstallStep.Skip usn) n = (
-    no_park (λ x c. true_false true refl (n.first (InstallStep.Park x) c)),
-    no_erase (λ x c. true_false true refl (n.first (InstallStep.Erase x) c)),
-    no_make (λ x c. true_false true refl (n.first (InstallStep.Make x) c)),
-    no_rewrite (λ x c. true_false true refl (n.first (InstallStep.Rewrite x) c)),
-    no_place (λ x c. true_false true refl (n.first (InstallStep.Place x) c)),
-    no_unstage (λ x c. true_false true refl (n.first (InstallStep.Unstage x) c)),
+  turn (install_step.Skip usn) n = (
+    no_park (λ x c. true_false true refl (n.first (install_step.Park x) c)),
+    no_erase (λ x c. true_false true refl (n.first (install_step.Erase x) c)),
+    no_make (λ x c. true_false true refl (n.first (install_step.Make x) c)),
+    no_rewrite (λ x c. true_false true refl (n.first (install_step.Rewrite x) c)),
+    no_place (λ x c. true_false true refl (n.first (install_step.Place x) c)),
+    no_unstage (λ x c. true_false true refl (n.first (install_step.Unstage x) c)),
   )
 
   -- ---- each candidate is one of these
@@ -320,14 +322,14 @@ module _ (R : Update → Type 0) (l : IsListed R) (own : ℕ) (m : Maps) (staged
 
   is_one : (fids : ℕ) → ((fid : ℕ) (o : Object) → IsAt m fid o → fid < fids) → (step : InstallStep) → Candidate step → In step (candidates fids)
   unfolding candidates
-  is_one fids low (InstallStep.Park uid) (f, o, p, at, id, place, n) = (of_object fids low uid f o at id).park
-  is_one fids low (InstallStep.Erase uid) (f, o, u, at, id, r, is, gone) = (of_object fids low uid f o at id).erase
-  is_one fids low (InstallStep.Make uid) (u, s, id, n) = (are_among uid _ consumed (subst (λ x. In x (uids_below own m fids ++ map (λ u. u.uid) l.list)) id
+  is_one fids low (install_step.Park uid) (f, o, p, at, id, place, n) = (of_object fids low uid f o at id).park
+  is_one fids low (install_step.Erase uid) (f, o, u, at, id, r, is, gone) = (of_object fids low uid f o at id).erase
+  is_one fids low (install_step.Make uid) (u, s, id, n) = (are_among uid _ consumed (subst (λ x. In x (uids_below own m fids ++ map (λ u. u.uid) l.list)) id
       (in_after u.uid (uids_below own m fids) (map (λ u. u.uid) l.list) (in_uids u l.list (l.to u (shown_record R u s)))))).make
-  is_one fids low (InstallStep.Rewrite uid) (f, o, u, at, id, r, is, file, n) = (of_object fids low uid f o at id).rewrite
-  is_one fids low (InstallStep.Place uid) (f, o, u, at, id, limbo, s, is) = (of_object fids low uid f o at id).place
-  is_one fids low (InstallStep.Unstage uid) (f, o, at, id, is) = (of_object fids low uid f o at id).unstage
-  is_one fids low (InstallStep.Skip usn) (r, is, at) = subst (λ n. In (InstallStep.Skip n) (candidates fids)) (sym is) (skip_among (uids_below own m fids ++ map (λ u. u.uid) l.list) consumed)
+  is_one fids low (install_step.Rewrite uid) (f, o, u, at, id, r, is, file, n) = (of_object fids low uid f o at id).rewrite
+  is_one fids low (install_step.Place uid) (f, o, u, at, id, limbo, s, is) = (of_object fids low uid f o at id).place
+  is_one fids low (install_step.Unstage uid) (f, o, at, id, is) = (of_object fids low uid f o at id).unstage
+  is_one fids low (install_step.Skip usn) (r, is, at) = subst (λ n. In (install_step.Skip n) (candidates fids)) (sym is) (skip_among (uids_below own m fids ++ map (λ u. u.uid) l.list) consumed)
 
 -- ---- the laws
 
@@ -372,19 +374,19 @@ quiet_members_go_on w h d quiet = elim (least Is (decided R l d m staged consume
       | inl e ↦ (
           let low : consumed < m.next_usn = grind (arith, nat_tests, e) in
           let (r, at) = numbers.whole consumed (h.versions.begun d) low in
-          absurd (none (InstallStep.Skip consumed) (r, refl, at)))
+          absurd (none (install_step.Skip consumed) (r, refl, at)))
       | inr n ↦ (let most = numbers.consumed_is in grind (arith, nat_tests, n, most))
     ]
 
     drained : ((s : InstallStep) → Is s → ⊥) → IsDrained R d m staged consumed
     drained none = record {
       quiet = quiet;
-      park = no_park R l d m staged consumed sites (λ x c. none (InstallStep.Park x) c);
-      erase = no_erase R l d m staged consumed sites (λ x c. none (InstallStep.Erase x) c);
-      make = no_make R l d m staged consumed sites (λ x c. none (InstallStep.Make x) c);
-      rewrite = no_rewrite R l d m staged consumed sites (λ x c. none (InstallStep.Rewrite x) c);
-      place = no_place R l d m staged consumed sites (λ x c. none (InstallStep.Place x) c);
-      unstage = no_unstage R l d m staged consumed sites (λ x c. none (InstallStep.Unstage x) c);
+      park = no_park R l d m staged consumed sites (λ x c. none (install_step.Park x) c);
+      erase = no_erase R l d m staged consumed sites (λ x c. none (install_step.Erase x) c);
+      make = no_make R l d m staged consumed sites (λ x c. none (install_step.Make x) c);
+      rewrite = no_rewrite R l d m staged consumed sites (λ x c. none (install_step.Rewrite x) c);
+      place = no_place R l d m staged consumed sites (λ x c. none (install_step.Place x) c);
+      unstage = no_unstage R l d m staged consumed sites (λ x c. none (install_step.Unstage x) c);
       skip = all none;
     }
 
@@ -395,10 +397,10 @@ pub drained_members_have_none : DrainedMembersHaveNone
 drained_members_have_none w h d drained step next = by step next.candidate
   where
     by : (s : InstallStep) → IsCandidate (IsRecordOf w d) d (w.at d).volume (w.at d).staged (w.at d).consumed s → ⊥
-    by (InstallStep.Park uid) (fid, o, p, at, id, place, n) = n (drained.park fid o p at place)
-    by (InstallStep.Erase uid) (fid, o, u, at, id, r, is, gone) = true_false u.present (drained.erase fid o u at r (is ∙ sym id)) gone
-    by (InstallStep.Make uid) (u, s, id, new) = let (fid, o, at, is) = drained.make u s in new fid o at (is ∙ id)
-    by (InstallStep.Rewrite uid) (fid, o, u, at, id, r, is, file, n) = n (drained.rewrite fid o u at r (is ∙ sym id) file)
-    by (InstallStep.Place uid) (fid, o, u, at, id, limbo, s, is) = drained.place fid o u at limbo s (is ∙ sym id)
-    by (InstallStep.Unstage uid) (fid, o, at, id, is) = drained.unstage uid o.sum fid o is at id refl
-    by (InstallStep.Skip usn) (r, is, at) = let low = (h.members d).numbers.entries usn r at in let all = drained.skip in omega (arith, low, all, is)
+    by (install_step.Park uid) (fid, o, p, at, id, place, n) = n (drained.park fid o p at place)
+    by (install_step.Erase uid) (fid, o, u, at, id, r, is, gone) = true_false u.present (drained.erase fid o u at r (is ∙ sym id)) gone
+    by (install_step.Make uid) (u, s, id, new) = let (fid, o, at, is) = drained.make u s in new fid o at (is ∙ id)
+    by (install_step.Rewrite uid) (fid, o, u, at, id, r, is, file, n) = n (drained.rewrite fid o u at r (is ∙ sym id) file)
+    by (install_step.Place uid) (fid, o, u, at, id, limbo, s, is) = drained.place fid o u at limbo s (is ∙ sym id)
+    by (install_step.Unstage uid) (fid, o, at, id, is) = drained.unstage uid o.sum fid o is at id refl
+    by (install_step.Skip usn) (r, is, at) = let low = (h.members d).numbers.entries usn r at in let all = drained.skip in omega (arith, low, all, is)

@@ -4,7 +4,10 @@ use Rattle.std.proofs.lemmas.Bool.{cases_eq}
 use Rattle.std.proofs.lemmas.Bool.Decides.{nat_tests}
 use Rattle.vol_state.specs.declared.record.VolRecord.{VolRecord}
 use Rattle.vol_state.specs.Maps.{Maps}
-use Rattle.name_rules.specs.Next.{IsFirstPending, IsPendingAt, IsQuiet, Next as InstallNext, Step as InstallStep}
+use Rattle.name_rules.specs.Next.{IsFirstPending, IsPendingAt, IsQuiet}
+use Rattle.name_rules.specs.declared.step.Next.{Next as InstallNext}
+use Rattle.name_rules.specs.declared.step.Step.{Step as InstallStep}
+use Rattle.name_rules.specs.declared.step.Next.TheVariants as install_next
 use Rattle.world_model.specs.Invariant.{NumbersAreFresh}
 use Rattle.world_model.specs.Laws.{IsAnswerAt, IsDrainedAt, IsNextAt, MembersHaveOneAnswer}
 use Rattle.world_model.proofs.Facts.{none_some, some_is, true_false}
@@ -54,10 +57,10 @@ not_quiet consumed m usn (r, past, at, local) quiet = true_false r.local local (
 
 pub members_have_one_answer : MembersHaveOneAnswer
 members_have_one_answer w h d = elim (found c m (m.next_usn - c) c (omega (arith, most)) numbers.entries (omega arith) (λ j r past low at. absurd (omega (arith, past, low)))) [
-  | inl (usn, first) ↦ (InstallNext.NotYet usn, first, pending usn first)
+  | inl (usn, first) ↦ (install_next.NotYet usn, first, pending usn first)
   | inr quiet ↦ elim (quiet_members_go_on w h d quiet) [
-    | inl drained ↦ (InstallNext.Drained, drained, nothing quiet drained)
-    | inr (step, next, turn) ↦ (InstallNext.Do step, (quiet, next), does quiet step next)
+    | inl drained ↦ (install_next.Drained, drained, nothing quiet drained)
+    | inr (step, next, turn) ↦ (install_next.Do step, (quiet, next), does quiet step next)
   ]
 ]
   where
@@ -73,20 +76,20 @@ members_have_one_answer w h d = elim (found c m (m.next_usn - c) c (omega (arith
     most : c ≤ m.next_usn
     most = numbers.consumed_is
 
-    pending : (usn : ℕ) → IsFirstPending c m usn → (other : InstallNext) → IsAnswerAt w d other → other ≡ InstallNext.NotYet usn
-    pending usn first (InstallNext.Do step) a = absurd (not_quiet c m usn first.pending a.0)
-    pending usn first InstallNext.Drained a = absurd (not_quiet c m usn first.pending a.quiet)
-    pending usn first (InstallNext.NotYet n) a = ap InstallNext.NotYet (same (a.least usn first.pending) (first.least n a.pending))
+    pending : (usn : ℕ) → IsFirstPending c m usn → (other : InstallNext) → IsAnswerAt w d other → other ≡ install_next.NotYet usn
+    pending usn first (install_next.Do step) a = absurd (not_quiet c m usn first.pending a.0)
+    pending usn first install_next.Drained a = absurd (not_quiet c m usn first.pending a.quiet)
+    pending usn first (install_next.NotYet n) a = ap install_next.NotYet (same (a.least usn first.pending) (first.least n a.pending))
       where
         same : n ≤ usn → usn ≤ n → n ≡ usn
         same p q = omega (arith, p, q)
 
-    nothing : IsQuiet c m → IsDrainedAt w d → (other : InstallNext) → IsAnswerAt w d other → other ≡ InstallNext.Drained
-    nothing quiet drained (InstallNext.Do step) a = absurd (drained_members_have_none w h d drained step a.1)
-    nothing quiet drained InstallNext.Drained a = refl
-    nothing quiet drained (InstallNext.NotYet n) a = absurd (not_quiet c m n a.pending quiet)
+    nothing : IsQuiet c m → IsDrainedAt w d → (other : InstallNext) → IsAnswerAt w d other → other ≡ install_next.Drained
+    nothing quiet drained (install_next.Do step) a = absurd (drained_members_have_none w h d drained step a.1)
+    nothing quiet drained install_next.Drained a = refl
+    nothing quiet drained (install_next.NotYet n) a = absurd (not_quiet c m n a.pending quiet)
 
-    does : IsQuiet c m → (step : InstallStep) → IsNextAt w d step → (other : InstallNext) → IsAnswerAt w d other → other ≡ InstallNext.Do step
-    does quiet step next (InstallNext.Do other) a = ap InstallNext.Do (next_steps_are_one w d other step a.1 next)
-    does quiet step next InstallNext.Drained a = absurd (drained_members_have_none w h d a step next)
-    does quiet step next (InstallNext.NotYet n) a = absurd (not_quiet c m n a.pending quiet)
+    does : IsQuiet c m → (step : InstallStep) → IsNextAt w d step → (other : InstallNext) → IsAnswerAt w d other → other ≡ install_next.Do step
+    does quiet step next (install_next.Do other) a = ap install_next.Do (next_steps_are_one w d other step a.1 next)
+    does quiet step next install_next.Drained a = absurd (drained_members_have_none w h d a step next)
+    does quiet step next (install_next.NotYet n) a = absurd (not_quiet c m n a.pending quiet)

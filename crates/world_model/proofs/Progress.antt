@@ -18,7 +18,9 @@ use Rattle.record_db.proofs.Best.{best_one, held_is}
 use Rattle.record_db.proofs.Keys.{key_same}
 use Rattle.name_rules.specs.Recorded.{parent_uid}
 use Rattle.name_rules.specs.Tree.{HasName, IsShown, ShownBy, is_file, kind_of}
-use Rattle.name_rules.specs.Next.{IsQuiet, NothingToMake, NothingToPark, Step as InstallStep}
+use Rattle.name_rules.specs.Next.{IsQuiet, NothingToMake, NothingToPark}
+use Rattle.name_rules.specs.declared.step.Step.{Step as InstallStep}
+use Rattle.name_rules.specs.declared.step.Step.TheVariants as install_step
 use Rattle.name_rules.proofs.Parents.{kind_is, parent_is, parent_root}
 use Rattle.name_rules.proofs.Showing.{shown_record}
 use Rattle.world_model.specs.World.{Member, World, IsRecordOf}
@@ -192,9 +194,9 @@ has_bytes x u contents staged = by (is_file u) refl
         (bytes, λ k. absurd (plain u.present (is_directory u) i (sym (kind_is u) ∙ k)), λ k. (staged i ∙ ap Some (sym is), is))
 
 pub next_steps : NextStepsCanBeDone
-next_steps w h d quiet (InstallStep.Park file) turn (f, o, p, at, uid, place, out) =
+next_steps w h d quiet (install_step.Park file) turn (f, o, p, at, uid, place, out) =
     (_, (cmd.Park f, (f, o, at, uid, refl), (quiet, (o, p, at, place, out), (o, at, λ e. none_some p (sym e ∙ place)), refl)))
-next_steps w h d quiet (InstallStep.Erase file) park (f, o, u, at, uid, r, id, absent) = (
+next_steps w h d quiet (install_step.Erase file) park (f, o, u, at, uid, r, id, absent) = (
   _,
   (
     cmd.Erase f,
@@ -210,7 +212,7 @@ next_steps w h d quiet (InstallStep.Erase file) park (f, o, u, at, uid, r, id, a
   where
     parked : IsParked w.all d (w.at d)
     parked = record { one = h.versions.one_each; sound = h.members d; no_root = h.files.no_root; park = park }
-next_steps w h d quiet (InstallStep.Make file) turn (u, shown, id, none) =
+next_steps w h d quiet (install_step.Make file) turn (u, shown, id, none) =
     let r = shown_record (IsRecordOf w d) u shown in
     let (bytes, bare, staged) = has_bytes (w.at d) u (h.sums.hashes u r.among.0) (λ i. staged_for w.all d (w.at d) u (h.members d) quiet r i (λ c. none c.0 c.1 c.2 (c.3 ∙ id))) in (
       _,
@@ -225,7 +227,7 @@ next_steps w h d quiet (InstallStep.Make file) turn (u, shown, id, none) =
         ),
       ),
     )
-next_steps w h d quiet (InstallStep.Rewrite file) turn (f, o, u, at, uid, r, id, is, differs) =
+next_steps w h d quiet (install_step.Rewrite file) turn (f, o, u, at, uid, r, id, is, differs) =
     let staged : (w.at d).staged u.uid ≡ Some u.hash = staged_for w.all d (w.at d) u (h.members d) quiet r is (λ c. differs (ap (λ z. z.sum) (same c) ∙ c.4)) in
     let (bytes, is_sum) = h.sums.hashes u r.among.0 is in
     let kind : kind_of u ≡ o.kind = (h.members d).objects.kinds f o u at r.among.0 (id ∙ sym uid) in
@@ -245,13 +247,13 @@ next_steps w h d quiet (InstallStep.Rewrite file) turn (f, o, u, at, uid, r, id,
   where
     same : (c : HasSum d (w.at d).volume u.uid u.hash) → o ≡ c.1
     same c = let e : f ≡ c.0 = (h.members d).places.uids f c.0 o c.1 at c.2 (uid ∙ (sym id ∙ sym c.3)) in some_is o c.1 (sym at ∙ (ap (w.at d).volume.at e ∙ c.2))
-next_steps w h d quiet (InstallStep.Place file) (park, erase, make, rewrite) (f, o, u, at, uid, limbo, shown, id) = go (home w.all d (w.at d) u (h.members d) make shown)
+next_steps w h d quiet (install_step.Place file) (park, erase, make, rewrite) (f, o, u, at, uid, limbo, shown, id) = go (home w.all d (w.at d) u (h.members d) make shown)
   where
     parked : IsParked w.all d (w.at d)
     parked = record { one = h.versions.one_each; sound = h.members d; no_root = h.files.no_root; park = park }
 
     CanBeDone : Uid → Type 0
-    CanBeDone file = (new : World) × IsDone w d (InstallStep.Place file) new
+    CanBeDone file = (new : World) × IsDone w d (install_step.Place file) new
 
     r : IsRecordOf w d u
     r = shown_record (IsRecordOf w d) u shown
@@ -276,7 +278,7 @@ next_steps w h d quiet (InstallStep.Place file) (park, erase, make, rewrite) (f,
     go (inr (p, g, q, pid, at', uid', dir, rp)) =
         place g (sym pid ∙ (sym uid' ∙ sym (parent_is d (w.at d).volume g q (h.members d).numbers.root at'))) (inr (q, at', dir))
         (λ b. no_cycle w.all d (w.at d) parked f g o q u p at r (id ∙ sym uid) at' uid' pid (λ e. h.files.no_root p rp.among.0 (pid ∙ e)) b shown.0 shown.0 (omega arith) shown.1)
-next_steps w h d quiet (InstallStep.Unstage file) turn (f, o, at, uid, staged) = (_, (f, o, at, uid, staged, refl))
-next_steps w h d quiet (InstallStep.Skip usn) turn (r, is, at) =
+next_steps w h d quiet (install_step.Unstage file) turn (f, o, at, uid, staged) = (_, (f, o, at, uid, staged, refl))
+next_steps w h d quiet (install_step.Skip usn) turn (r, is, at) =
     let (held, is_held) = held_is w.all (w.at d).known r.uid in
     (_, (0, is, quiet, (omega arith, _, (r, held, subst (λ n. (w.at d).volume.entry n ≡ Some r) is at, is_held, refl), refl)))

@@ -13,7 +13,8 @@ use Rattle.record_db.specs.Records.{Has}
 use Rattle.record_db.proofs.Keys.{uid_cases}
 use Rattle.name_rules.specs.Recorded.{parent_uid}
 use Rattle.name_rules.specs.Tree.{IsShown, is_file}
-use Rattle.name_rules.specs.Next.{Step as InstallStep}
+use Rattle.name_rules.specs.declared.step.Step.{Step as InstallStep}
+use Rattle.name_rules.specs.declared.step.Step.TheVariants as install_step
 use Rattle.name_rules.proofs.Showing.{shown_record}
 use Rattle.world_model.specs.World.{World, IsRecordOf}
 use Rattle.world_model.specs.Events.{Consume, Install, Unstage}
@@ -157,13 +158,13 @@ views_there w h d uid = view_of (IsRecordOf w d) (records_listed w.all (w.at d).
 
 -- a step that is done is an event, which keeps the invariant
 kept : (w : World) (d : ℕ) (step : InstallStep) (new : World) → Invariant w → IsDone w d step new → Invariant new
-kept w d (InstallStep.Park file) new h (op, by, step) = step_keeps w d (Install op) new h step
-kept w d (InstallStep.Erase file) new h (op, by, step) = step_keeps w d (Install op) new h step
-kept w d (InstallStep.Make file) new h (op, by, step) = step_keeps w d (Install op) new h step
-kept w d (InstallStep.Rewrite file) new h (op, by, step) = step_keeps w d (Install op) new h step
-kept w d (InstallStep.Place file) new h (op, by, step) = step_keeps w d (Install op) new h step
-kept w d (InstallStep.Unstage file) new h step = step_keeps w d (Unstage file) new h step
-kept w d (InstallStep.Skip usn) new h (moment, is, quiet, step) = step_keeps w d (Consume moment) new h step
+kept w d (install_step.Park file) new h (op, by, step) = step_keeps w d (Install op) new h step
+kept w d (install_step.Erase file) new h (op, by, step) = step_keeps w d (Install op) new h step
+kept w d (install_step.Make file) new h (op, by, step) = step_keeps w d (Install op) new h step
+kept w d (install_step.Rewrite file) new h (op, by, step) = step_keeps w d (Install op) new h step
+kept w d (install_step.Place file) new h (op, by, step) = step_keeps w d (Install op) new h step
+kept w d (install_step.Unstage file) new h step = step_keeps w d (Unstage file) new h step
+kept w d (install_step.Skip usn) new h (moment, is, quiet, step) = step_keeps w d (Consume moment) new h step
 
 -- no more are done for a file than are due
 few_done : (w : World) → Invariant w → (d : ℕ) (steps : List InstallStep) (new : World) → AreDone w d steps new → (uid : Uid) (v : View) → SeesAt w d uid v → count_by (λ step. is_for step uid) steps ≤ due v

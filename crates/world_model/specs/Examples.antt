@@ -10,7 +10,10 @@ use Rattle.vol_state.specs.declared.command.VolCmd.TheVariants.{Make, Place, Put
 use Rattle.vol_state.specs.Conditions.{root_uid}
 use Rattle.vol_state.specs.Sums.{file_sum, no_sum}
 use Rattle.record_db.specs.Records.{IsRecord, Versions, both, plus}
-use Rattle.name_rules.specs.Next.{Next as InstallNext, Step as InstallStep}
+use Rattle.name_rules.specs.declared.step.Next.{Next as InstallNext}
+use Rattle.name_rules.specs.declared.step.Step.{Step as InstallStep}
+use Rattle.name_rules.specs.declared.step.Step.TheVariants as install_step
+use Rattle.name_rules.specs.declared.step.Next.TheVariants as install_next
 use Rattle.name_rules.specs.Tree.{IsShown}
 use Rattle.world_model.specs.Due.{View, due}
 use Rattle.world_model.specs.World.{World, IsRecordOf, fresh_world}
@@ -145,7 +148,7 @@ DoesNext hs next = (w : World) × Run begin hs w × IsAnswerAt w 2 next
 
 -- when it has pulled x it makes the file, and when it has installed it nothing is left to do
 abbrev pub Installs : Type 0
-Installs = DoesNext pulled (InstallNext.Do (InstallStep.Make (record { db = 1; version = 9 }))) × DoesNext (pulled ++ installed) InstallNext.Drained
+Installs = DoesNext pulled (install_next.Do (install_step.Make (record { db = 1; version = 9 }))) × DoesNext (pulled ++ installed) install_next.Drained
 
 -- ---- a cycle of parents
 

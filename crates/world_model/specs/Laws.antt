@@ -14,7 +14,10 @@ use Rattle.vol_state.specs.State.{uid_of}
 use Rattle.vol_state.specs.Tables.{IsAt}
 use Rattle.record_db.specs.Records.{Versions, Covered, IsHeldOrBeaten}
 use Rattle.name_rules.specs.Tree.{IsRow, IsVolumeRow, kind_of}
-use Rattle.name_rules.specs.Next.{IsAnswer, IsCandidate, IsDrained, IsNext, IsPending, IsQuiet, IsStepOf, IsTurn, Next as InstallNext, Step as InstallStep}
+use Rattle.name_rules.specs.Next.{IsAnswer, IsCandidate, IsDrained, IsNext, IsPending, IsQuiet, IsStepOf, IsTurn}
+use Rattle.name_rules.specs.declared.step.Next.{Next as InstallNext}
+use Rattle.name_rules.specs.declared.step.Step.{Step as InstallStep}
+use Rattle.name_rules.specs.declared.step.Step.TheVariants as install_step
 use Rattle.world_model.specs.World.{Member, World, SentVector, IsRecordOf, fresh_member, fresh_world}
 use Rattle.world_model.specs.Events.{Event, Step, Adopt, Install, Unstage, IsAllHeld, Consume}
 use Rattle.world_model.specs.Runs.{CoversAlike, Grows, Happening, Run}
@@ -97,13 +100,13 @@ IsOperated w d step new = (op : VolCmd) × IsStepOf (IsRecordOf w d) d (w.at d).
 
 -- a step is done; the last two kinds leave the volume alone, and the last passes over a record of the installer's own
 abbrev pub IsDone : World → ℕ → InstallStep → World → Type 0
-IsDone w d (InstallStep.Park file) new = IsOperated w d (InstallStep.Park file) new
-IsDone w d (InstallStep.Erase file) new = IsOperated w d (InstallStep.Erase file) new
-IsDone w d (InstallStep.Make file) new = IsOperated w d (InstallStep.Make file) new
-IsDone w d (InstallStep.Rewrite file) new = IsOperated w d (InstallStep.Rewrite file) new
-IsDone w d (InstallStep.Place file) new = IsOperated w d (InstallStep.Place file) new
-IsDone w d (InstallStep.Unstage file) new = Step w d (Unstage file) new
-IsDone w d (InstallStep.Skip usn) new = (moment : ℕ) × (usn ≡ (w.at d).consumed) × IsQuiet (w.at d).consumed (w.at d).volume × Step w d (Consume moment) new
+IsDone w d (install_step.Park file) new = IsOperated w d (install_step.Park file) new
+IsDone w d (install_step.Erase file) new = IsOperated w d (install_step.Erase file) new
+IsDone w d (install_step.Make file) new = IsOperated w d (install_step.Make file) new
+IsDone w d (install_step.Rewrite file) new = IsOperated w d (install_step.Rewrite file) new
+IsDone w d (install_step.Place file) new = IsOperated w d (install_step.Place file) new
+IsDone w d (install_step.Unstage file) new = Step w d (Unstage file) new
+IsDone w d (install_step.Skip usn) new = (moment : ℕ) × (usn ≡ (w.at d).consumed) × IsQuiet (w.at d).consumed (w.at d).volume × Step w d (Consume moment) new
 
 -- each next step can be done
 abbrev pub NextStepsCanBeDone : Type 0
@@ -228,13 +231,13 @@ AtMostFourAreDue = (w : World) → Invariant w → (d : ℕ) (uid : Uid) (v : Vi
 
 -- the step is for this file; the last kind is for none
 abbrev pub is_for : InstallStep → Uid → Bool
-is_for (InstallStep.Park file) uid = same_uid file uid
-is_for (InstallStep.Erase file) uid = same_uid file uid
-is_for (InstallStep.Make file) uid = same_uid file uid
-is_for (InstallStep.Rewrite file) uid = same_uid file uid
-is_for (InstallStep.Place file) uid = same_uid file uid
-is_for (InstallStep.Unstage file) uid = same_uid file uid
-is_for (InstallStep.Skip usn) uid = false
+is_for (install_step.Park file) uid = same_uid file uid
+is_for (install_step.Erase file) uid = same_uid file uid
+is_for (install_step.Make file) uid = same_uid file uid
+is_for (install_step.Rewrite file) uid = same_uid file uid
+is_for (install_step.Place file) uid = same_uid file uid
+is_for (install_step.Unstage file) uid = same_uid file uid
+is_for (install_step.Skip usn) uid = false
 
 -- each step that is done lowers what is due for its file, and raises it for none
 abbrev pub StepsLowerWhatIsDue : Type 0

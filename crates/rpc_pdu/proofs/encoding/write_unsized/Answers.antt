@@ -7,4 +7,4 @@ pub returns : goal.returns
 returns c =
     let p = c.args.pdu.now in
     c.into_vec.ensures ∙ c.in_ok-put_body.ensures
-    ∙ ap (body_appends p.body) (c.in_ok-put_header.ensures ∙ ap (λ (out : List ℕ). header_item.appends out c.header_for.result) c.in_ok-out.ensures ∙ ap (header_item.appends []) c.header_for.ensures)
+    ∙ ap (body_appends p.body) (c.in_ok-put_header.ensures ∙ ap (λ (out : List ℕ). header_item.appends out c.header_for.result) (c.over-out.ensures ∙ c.in_ok-with_capacity.ensures.items) ∙ ap (header_item.appends []) c.header_for.ensures)
