@@ -11,8 +11,6 @@ mod consumer;
 #[cfg(test)]
 mod folder;
 #[cfg(test)]
-mod names;
-#[cfg(test)]
 mod pinned;
 #[cfg(test)]
 mod volume;
