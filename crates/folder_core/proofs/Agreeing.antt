@@ -6,13 +6,16 @@ use Rattle.frs_base.specs.Options.{In}
 use Rattle.version_vector.specs.Versions.{covers}
 use Rattle.version_vector.specs.declared.interval.Interval.{Interval}
 use Rattle.win_order.specs.declared.update.Update.{Update}
+use Rattle.frs_base.specs.declared.version.Uid.{Uid}
 use Rattle.vol_state.specs.declared.command.VolCmd.{VolCmd}
+use Rattle.vol_state.specs.declared.object.Object.{Object}
 use Rattle.vol_state.specs.declared.record.VolRecord.{VolRecord}
 use Rattle.vol_state.specs.Conditions.{is_allowed}
 use Rattle.vol_state.specs.Effects.{effect}
 use Rattle.vol_state.specs.Journal.{record_at}
 use Rattle.vol_state.specs.Maps.{StandsOn, maps_of, write}
-use Rattle.vol_state.specs.Tables.{IsLocal}
+use Rattle.vol_state.specs.State.{uid_of}
+use Rattle.vol_state.specs.Tables.{IsAt}
 use Rattle.record_db.specs.declared.command.BookCmd.TheVariants as cmd
 use Rattle.record_db.specs.Lists.{put_any, put_record}
 use Rattle.record_db.specs.Staged.{with_uid}
@@ -21,12 +24,13 @@ use Rattle.record_db.specs.Steps.{Changes, in_set}
 use Rattle.name_rules.specs.Recorded.{base_fence, held_of, is_deletion, made_of, recorded_of}
 use Rattle.name_rules.specs.Tree.{is_file}
 use Rattle.name_rules.proofs.Cases.{made_by}
-use Rattle.world_model.specs.Events.{adopted_by, consumed_by, finished_by, operated}
+use Rattle.world_model.specs.Events.{adopted_by, consumed_by, finished_by, operated, unstaged_at}
 use Rattle.world_model.specs.Folder.{FolderIsSound, IsFit, IsFitVector}
 use Rattle.world_model.specs.World.{Member}
 use Rattle.world_model.proofs.Folder.{folders_stay}
 use Rattle.folder_core.specs.Machine.{Machine}
 use Rattle.folder_core.specs.Consume.{made_at}
+use Rattle.folder_core.specs.Install.{MayOperate}
 use Rattle.folder_core.specs.Notes.{form_sum}
 use Rattle.folder_core.specs.Sound.{Agrees, IsInOrder, member_of, staged_sums}
 use Rattle.folder_core.proofs.Alike.{covers_are, maps_are, stands_for_maps}
@@ -37,11 +41,14 @@ use Rattle.folder_core.proofs.Staging.{sums_made, sums_stay, sums_with}
 moved : (own own' : ℕ) (x x' : Member) (records records' : List Update) → own ≡ own' → x ≡ x' → records ≡ records' → FolderIsSound own x records → FolderIsSound own' x' records'
 moved own own' x x' records records' p q r h = subst (λ l. FolderIsSound own' x' l) r (subst (λ y. FolderIsSound own' y records) q (subst (λ o. FolderIsSound o x records) p h))
 
--- a local operation is done
-pub agrees_operated : StandsOn → (m : Machine) (op : VolCmd) → IsInOrder m → is_allowed op m.volume ≡ true → IsLocal (maps_of m.volume) op → Agrees m → Agrees (record m { volume = effect op m.volume })
-agrees_operated on m op order allowed local h =
-    subst (λ x. FolderIsSound m.book.own x m.book.records) path ((folders_stay m.book.own (member_of m) m.book.records h).local op local)
+-- an operation on the volume is done
+pub agrees_operated : StandsOn → (m : Machine) (op : VolCmd) → IsInOrder m → is_allowed op m.volume ≡ true → MayOperate m op → Agrees m → Agrees (record m { volume = effect op m.volume })
+agrees_operated on m op order allowed may h = subst (λ x. FolderIsSound m.book.own x m.book.records) path (after may)
   where
+    after : MayOperate m op → FolderIsSound m.book.own (operated m.book.own op (member_of m)) m.book.records
+    after (inl local) = (folders_stay m.book.own (member_of m) m.book.records h).local op local
+    after (inr i) = (folders_stay m.book.own (member_of m) m.book.records h).install op i.quiet i.due i.replica
+
     maps : write m.volume.own op (maps_of m.volume) ≡ maps_of (effect op m.volume)
     maps = maps_are (effect op m.volume) (write m.volume.own op (maps_of m.volume)) (on op m.volume (maps_of m.volume) order.volume order.free allowed (stands_for_maps m.volume))
 
@@ -117,4 +124,17 @@ agrees_finished m sent new fit c h =
     let staged = sums_stay m.book new c.staged in
     let path : finished_by (covers sent) (member_of m) ≡ member_of (record m { book = new }) =
     (λ i. record (finished_by (covers sent) (member_of m)) { known = sym known i; consumed = sym c.consumed i; kind = sym c.kind i; phase = sym c.phase i; staged = sym staged i }) in
+    moved _ _ _ _ _ _ (sym c.own) path (sym c.records) after
+
+-- ---- the installer
+
+-- a staged form goes
+pub agrees_unstaged : (m : Machine) (uid : Uid) (fid : ℕ) (o : Object) (new : BookState) → IsAt (maps_of m.volume) fid o → uid_of m.book.own o ≡ uid → staged_sums m.book uid ≡ Some o.sum
+    → Changes (cmd.Unstage uid) m.book new → Agrees m → Agrees (record m { book = new })
+agrees_unstaged m uid fid o new at is staged c h =
+    let after : FolderIsSound m.book.own (unstaged_at uid (member_of m)) m.book.records = (folders_stay m.book.own (member_of m) m.book.records h).unstage uid fid o at is staged in
+    let known = covers_are new.vector _ c.vector in
+    let sums = sums_with m.book new uid None c.staged in
+    let path : unstaged_at uid (member_of m) ≡ member_of (record m { book = new }) =
+    (λ i. record (unstaged_at uid (member_of m)) { known = sym known i; consumed = sym c.consumed i; kind = sym c.kind i; phase = sym c.phase i; staged = sym sums i }) in
     moved _ _ _ _ _ _ (sym c.own) path (sym c.records) after

@@ -4,7 +4,7 @@ use Rattle.std.specs.Prelude.{MatchOption, option_map}
 use Rattle.std.specs.List.{AllByRecursion}
 use Rattle.version_vector.specs.declared.interval.Interval.{Interval}
 use Rattle.win_order.specs.declared.update.Update.{Update}
-use Rattle.record_db.specs.declared.command.BookCmd.TheVariants.{RecordLocal, Adopt, Finish}
+use Rattle.record_db.specs.declared.command.BookCmd.TheVariants.{RecordLocal, Adopt, Finish, Unstage}
 use Rattle.record_db.specs.Lists.{put_any}
 use Rattle.record_db.specs.State.{BookState}
 use Rattle.record_db.specs.Steps.{Changes, in_set}
@@ -37,6 +37,13 @@ bounds_adopted old new u form h has c = record {
 -- a round is finished
 pub bounds_finished : (old new : BookState) (sent : List Interval) → IsInBounds old → Changes (Finish sent) old new → IsInBounds new
 bounds_finished old new sent h c = record {
+  begun = subst (λ n. 9 ≤ n) (sym c.consumed) h.begun;
+  clocks = subst (AllByRecursion (λ u. u.clock < 2 ^ 62)) (sym c.records) h.clocks;
+}
+
+-- a staged form goes
+pub bounds_unstaged : (old new : BookState) (uid : Uid) → IsInBounds old → Changes (Unstage uid) old new → IsInBounds new
+bounds_unstaged old new uid h c = record {
   begun = subst (λ n. 9 ≤ n) (sym c.consumed) h.begun;
   clocks = subst (AllByRecursion (λ u. u.clock < 2 ^ 62)) (sym c.records) h.clocks;
 }

@@ -23,6 +23,9 @@ use Rattle.usn_consumer.specs.declared.consumed.Consumed.{Consumed}
 use Rattle.usn_consumer.specs.declared.consumed.Consumed.TheVariants.{End, Make, Skip}
 use Rattle.usn_consumer.proofs.Clocks.{clocks_of_each}
 use Rattle.std.specs.declared.alloc.AllocError.{AllocError}
+use Rattle.name_rules.specs.declared.step.Next.TheVariants as next
+use Rattle.name_rules.specs.declared.step.Step.TheVariants as step
+use Rattle.name_rules.proofs.Made.{passes_replicas}
 use Rattle.folder_core.specs.declared.answer.Answer.{Answer}
 use Rattle.folder_core.specs.declared.refusal.Refusal.{Refusal}
 use Rattle.folder_core.specs.declared.refusal.Refusal.TheVariants.{Skewed}
@@ -33,6 +36,7 @@ use Rattle.folder_core.specs.Books.{Takes}
 use Rattle.folder_core.specs.Consume.{AnswersConsume, AnswersMade, AnswersRecord, made_at}
 use Rattle.folder_core.specs.Adopt.{ChecksForm, Stages, adopt_refusal}
 use Rattle.folder_core.specs.Given.{MayTake}
+use Rattle.folder_core.specs.Install.{IsNextOf}
 use Rattle.folder_core.specs.Sound.{IsSound}
 use Rattle.folder_core.proofs.Fitting.{gives_way_to, is_clear, is_fit}
 use Rattle.folder_core.proofs.Held.{each_of, record_there}
@@ -131,6 +135,22 @@ may_record m moment made h numbers e has = by made (comes_of m moment made e) ha
           changes = λ new c. new_version m h new c.vector.covering;
         }
 
+-- a journal record of the installer's own may be passed
+pub may_skip : (m : Machine) (usn : ℕ) → IsSound m → m.volume.next_usn < 2 ^ 64 - 1 → IsNextOf m (next.Do (step.Skip usn)) → MayTake (cmd.RecordLocal usn None) m
+may_skip m usn h numbers (quiet, n) = by n.candidate
+  where
+    by : (c : (r : VolRecord) × (usn ≡ m.book.consumed) × (record_at m.volume.journal usn ≡ Some r)) → MayTake (cmd.RecordLocal usn None) m
+    by (r, is, at) =
+        let left : m.book.consumed < m.volume.next_usn = subst (λ k. k < m.volume.next_usn) is (h.agrees.member.numbers.entries usn r at) in
+        let low = h.order.consumed in
+        let passes : None ≡ made_at m 0 = sym (passes_replicas m.volume m.book.consumed m.book.records 0 m.book.phase m.book.kind r (subst (λ k. record_at m.volume.journal k ≡ Some r) is at)
+            (quiet usn r (subst (λ k. m.book.consumed ≤ k) (sym is) (omega arith)) at)) in
+        subst (λ k. MayTake (cmd.RecordLocal k None) m) (sym is) (record {
+          allowed = both_so _ _ (same_number m.book.consumed) (both_so _ _ (has_next_of m.book.consumed m.volume.next_usn low numbers) refl);
+          sound = λ new book c. recorded_sound m 0 None new h passes tt left book c;
+          changes = λ new c. new_version m h new c.vector.covering;
+        })
+
 -- ---- what consuming answers
 
 pub answers_end : (m : Machine) (moment : ℕ) (reply : Reply) (new : Machine) → End ≡ next_of m.volume m.book moment → (reply ≡ Nothing) × (new ≡ m) → AnswersConsume moment m reply new
@@ -215,8 +235,8 @@ answers_recorded m now moment usn u found (Err x) new p q is e has h = tt
 -- ---- forms
 
 -- what is staged with an update is what it is to be
-pub staged_of : (u : Update) (form : Option (List ℕ)) (staged : Result (Option (List ℕ)) Refusal) (given : Option (List ℕ)) → Stages u form staged → staged ≡ Ok given → IsStagedOf u given
-staged_of u form staged given h is = by (is_file u) refl h
+pub staged_of : (u : Update) (form : Option (List ℕ)) (staged : Result (Option (List ℕ)) Refusal) (given : Option (List ℕ)) → Stages u form staged → staged ≡ Ok given → MayBeStaged given → IsStagedOf u given
+staged_of u form staged given h is may = record { sum = by (is_file u) refl h; local = may }
   where
     ok_is : (x y : Option (List ℕ)) → staged ≡ Ok x → staged ≡ Ok y → x ≡ y
     ok_is x y p q = cc
@@ -224,19 +244,10 @@ staged_of u form staged given h is = by (is_file u) refl h
     err_ok : (w : Refusal) (x : Option (List ℕ)) → staged ≡ Err w → staged ≡ Ok x → ⊥
     err_ok w x p q = cc
 
-    some_is : (x y : List ℕ) → Some x ≡ Some y → x ≡ y
-    some_is x y e = cc
-
-    by : (b : Bool) → is_file u ≡ b → MatchBool b (ChecksForm (unwrap_or form []) u.hash (Some (unwrap_or form [])) staged) (staged ≡ Ok None) → IsStagedOf u given
+    by : (b : Bool) → is_file u ≡ b → MatchBool b (ChecksForm (unwrap_or form []) u.hash (Some (unwrap_or form [])) staged) (staged ≡ Ok None)
+        → option_map form_sum given ≡ (if is_file u then Some u.hash else None)
     by true file (inl (at, bad, refused)) = absurd (err_ok _ given refused is)
     by true file (inr (contents, local, inl (other, refused))) = absurd (err_ok _ given refused is)
     by true file (inr (contents, local, inr (same, taken))) =
-        subst (IsStagedOf u) (ok_is (Some (unwrap_or form [])) given taken is) (record {
-          sum = ap (λ s. Some s) same ∙ ap (λ b. if b then Some u.hash else None) (sym file);
-          local = λ f e. (contents, subst (λ g. IsLocalForm g contents) (some_is (unwrap_or form []) f e) local);
-        })
-    by false other nothing =
-        subst (IsStagedOf u) (ok_is None given nothing is) (record {
-          sum = ap (λ b. if b then Some u.hash else None) (sym other);
-          local = nothing_staged;
-        })
+        ap (λ o. option_map form_sum o) (ok_is given (Some (unwrap_or form [])) is taken) ∙ (ap (λ s. Some s) same ∙ ap (λ b. if b then Some u.hash else None) (sym file))
+    by false other nothing = ap (λ o. option_map form_sum o) (ok_is given None is nothing) ∙ ap (λ b. if b then Some u.hash else None) (sym other)

@@ -130,7 +130,7 @@ files_have_forms forms at place m uid u body h found file =
           f,
           ap (λ s. first_of (s ∷ option_map (λ (x : Object). spelling local x.bytes) (object_of m.volume uid) ∷ [])) p,
           sym hash ∙ ap (λ z. z.hash) (some_is v u same),
-          λ short. h.forms uid f p,
+          λ short. ((h.forms uid f p).contents, (h.forms uid f p).is),
         )
     by None p g =
         let (among, is) = held_in g in

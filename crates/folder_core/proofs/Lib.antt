@@ -11,3 +11,4 @@ pub mod Consuming
 pub mod Finishing
 pub mod Replaying
 pub mod OneAnswer
+pub mod Installing

@@ -2,7 +2,9 @@
 use Rattle.std.proofs.Common.{◌≡◌, ◌<◌, ◌≤◌, ◌+◌, ◌||◌, ℕ, Bool, true, false, ltb, List, [], ◌∷◌, length, Option, Some, None, Result, Ok, Err, refl, sym, ap, ◌∙◌, subst, inl, inr, arith}
 use Rattle.std.specs.Prelude.{MatchBool, MatchOption, MatchResult, unwrap_or}
 use Rattle.std.proofs.lemmas.Bool.Decides.{nat_tests}
+use Rattle.frs_base.specs.Options.{In}
 use Rattle.frs_base.specs.declared.version.Gvsn.{Gvsn}
+use Rattle.frs_base.specs.declared.version.Uid.{Uid}
 use Rattle.frs_base.specs.declared.sum.Sum.{Sum}
 use Rattle.marshal_form.proofs.Locals.{local_bad_places_are_one, local_forms_have_no_bad_place}
 use Rattle.version_vector.specs.Limits.{IsTooLong}
@@ -16,13 +18,28 @@ use Rattle.version_vector.proofs.Uniqueness.{unique}
 use Rattle.win_order.specs.declared.update.Update.{Update}
 use Rattle.vol_state.specs.declared.command.VolCmd.{VolCmd}
 use Rattle.vol_state.specs.declared.operation.Refused.{Refused}
+use Rattle.vol_state.specs.declared.command.VolCmd.TheVariants as vol
+use Rattle.vol_state.specs.declared.object.Object.{Object}
+use Rattle.vol_state.specs.Effects.{effect, uid_at}
+use Rattle.vol_state.specs.Maps.{maps_of}
 use Rattle.vol_state.specs.Paths.{resolve}
-use Rattle.name_rules.specs.Tree.{is_file}
+use Rattle.vol_state.specs.State.{uid_of}
+use Rattle.vol_state.specs.Tables.{IsAt}
+use Rattle.name_rules.specs.Tree.{is_file, kind_of}
 use Rattle.record_db.specs.declared.command.BookCmd.{BookCmd}
 use Rattle.record_db.specs.declared.command.BookCmd.TheVariants as cmd
-use Rattle.record_db.specs.State.{BookState, IsVector}
+use Rattle.record_db.specs.State.{BookState, IsVector, form_of}
 use Rattle.record_db.specs.Steps.{Changes, covered_after, own_version}
 use Rattle.record_db.specs.Records.{Versions}
+use Rattle.name_rules.specs.Next.{IsThere}
+use Rattle.name_rules.specs.Recorded.{parent_uid}
+use Rattle.name_rules.specs.declared.step.Next.{Next}
+use Rattle.name_rules.specs.declared.step.Next.TheVariants as next
+use Rattle.name_rules.specs.declared.step.Step.{Step}
+use Rattle.name_rules.specs.declared.step.Step.TheVariants as step
+use Rattle.name_rules.proofs.Parents.{parent_is, parent_root}
+use Rattle.world_model.proofs.Alone.{answers_are_one as members_once}
+use Rattle.world_model.proofs.Folder.{one_of}
 use Rattle.folder_core.specs.declared.event.Event.TheVariants as event
 use Rattle.folder_core.specs.declared.refusal.Refusal.{Refusal}
 use Rattle.folder_core.specs.declared.refusal.Refusal.TheVariants as why
@@ -34,6 +51,8 @@ use Rattle.folder_core.specs.Local.{Operates}
 use Rattle.folder_core.specs.Consume.{AnswersRecord, is_at_end, made_at}
 use Rattle.folder_core.specs.Adopt.{AnswersForm, ChecksForm, Stages, adopt_refusal}
 use Rattle.folder_core.specs.Finish.{IsLeastAhead, first_unheld}
+use Rattle.folder_core.specs.Install.{AnswersInstall, AnswersNext, DoesStep, GivesContents, Installs, IsOperation, contents_in}
+use Rattle.folder_core.specs.Sound.{IsSound, member_of}
 use Rattle.folder_core.specs.Laws.{AnswersAreOne, Runs, RunsAreOne}
 
 -- two answers and what they lead to are one
@@ -200,6 +219,81 @@ least_one old sent n m h k =
     let high = k.1 n h.0 in
     omega (arith, low, high)
 
+-- ---- the installer
+
+-- one operation of a step
+module _ (m : Machine) (h : IsSound m) where
+  -- the object of a file has one number
+  one_number : (f g : ℕ) (o q : Object) (uid : Uid) → IsAt (maps_of m.volume) f o → uid_of m.book.own o ≡ uid → IsAt (maps_of m.volume) g q → uid_of m.book.own q ≡ uid → f ≡ g
+  one_number f g o q uid at is at' is' = h.agrees.member.places.uids f g o q at at' (is ∙ sym is')
+
+  -- so has the directory with a UID
+  one_parent : (f g : ℕ) → IsThere (maps_of m.volume) f → IsThere (maps_of m.volume) g → parent_uid m.book.own (maps_of m.volume) f ≡ parent_uid m.book.own (maps_of m.volume) g → f ≡ g
+  one_parent f g (inl z) (inl z') e = z ∙ sym z'
+  one_parent f g (inl z) (inr (q, at)) e =
+      absurd (h.agrees.member.objects.no_root g q at (sym (parent_is m.book.own (maps_of m.volume) g q h.agrees.member.numbers.root at) ∙ (sym e ∙ parent_root m.book.own (maps_of m.volume) f z)))
+  one_parent f g (inr (o, at)) (inl z) e =
+      absurd (h.agrees.member.objects.no_root f o at (sym (parent_is m.book.own (maps_of m.volume) f o h.agrees.member.numbers.root at) ∙ (e ∙ parent_root m.book.own (maps_of m.volume) g z)))
+  one_parent f g (inr (o, at)) (inr (q, at')) e =
+      one_number f g o q (uid_of m.book.own q) at (sym (parent_is m.book.own (maps_of m.volume) f o h.agrees.member.numbers.root at) ∙ (e ∙ parent_is m.book.own (maps_of m.volume) g q h.agrees.member.numbers.root at')) at' refl
+
+  -- and a file one record
+  one_record : (uid : Uid) (u v : Update) → In u m.book.records → u.uid ≡ uid → In v m.book.records → v.uid ≡ uid → u ≡ v
+  one_record uid u v a p b q = one_of m.book.records h.agrees.rising u v a b (p ∙ sym q)
+
+  operation_one : (s : Step) (a b : VolCmd) → IsOperation m s a → IsOperation m s b → a ≡ b
+  operation_one (step.Park uid) a b p q =
+      let (f, o, at, is, e) = p.of_step in
+      let (g, z, at', is', e') = q.of_step in
+      e ∙ (ap vol.Park (one_number f g o z uid at is at' is') ∙ sym e')
+  operation_one (step.Erase uid) a b p q =
+      let (f, o, at, is, e) = p.of_step in
+      let (g, z, at', is', e') = q.of_step in
+      e ∙ (ap vol.Erase (one_number f g o z uid at is at' is') ∙ sym e')
+  operation_one (step.Make uid) a b p q =
+      let (u, bytes, r, id, e) = p.of_step in
+      let (v, others, r', id', e') = q.of_step in
+      let same : bytes ≡ others = subst (GivesContents m) e p.contents ∙ sym (subst (GivesContents m) e' q.contents) in
+      let one = one_record uid u v r id r' id' in
+      e ∙ ((λ i. vol.Make uid (kind_of (one i)) (same i)) ∙ sym e')
+  operation_one (step.Rewrite uid) a b p q =
+      let (f, o, bytes, at, is, e) = p.of_step in
+      let (g, z, others, at', is', e') = q.of_step in
+      let fid = one_number f g o z uid at is at' is' in
+      let same : bytes ≡ others = subst (GivesContents m) e p.contents ∙ (ap (λ k. contents_in (form_of m.book (uid_at m.volume k))) fid ∙ sym (subst (GivesContents m) e' q.contents)) in
+      e ∙ ((λ i. vol.Rewrite (fid i) (same i)) ∙ sym e')
+  operation_one (step.Place uid) a b p q =
+      let (f, o, u, k, at, is, r, id, there, up, e) = p.of_step in
+      let (g, z, v, l, at', is', r', id', there', up', e') = q.of_step in
+      let fid = one_number f g o z uid at is at' is' in
+      let one = one_record uid u v r id r' id' in
+      let parent = one_parent k l there there' (sym up ∙ (ap (λ w. w.parent) one ∙ up')) in
+      e ∙ ((λ i. vol.Place (fid i) (parent i) (one i).name) ∙ sym e')
+  operation_one (step.Unstage uid) a b p q = absurd p.of_step
+  operation_one (step.Skip usn) a b p q = absurd p.of_step
+
+installs_one : (old : Machine) (s : Step) (a b : Reply) (x y : Machine) → IsSound old → Installs s old a x → Installs s old b y → AreOne a x b y
+installs_one old s a b x y h (op, is, p, q) (other, too, r, t) =
+    (p ∙ sym r, q ∙ (ap (λ o. record old { volume = effect o old.volume }) (operation_one old h s op other is too) ∙ sym t))
+
+steps_one : (old : Machine) (s : Step) (a b : Reply) (x y : Machine) → IsSound old → DoesStep s old a x → DoesStep s old b y → AreOne a x b y
+steps_one old (step.Park uid) a b x y h p q = installs_one old (step.Park uid) a b x y h p q
+steps_one old (step.Erase uid) a b x y h p q = installs_one old (step.Erase uid) a b x y h p q
+steps_one old (step.Make uid) a b x y h p q = installs_one old (step.Make uid) a b x y h p q
+steps_one old (step.Rewrite uid) a b x y h p q = installs_one old (step.Rewrite uid) a b x y h p q
+steps_one old (step.Place uid) a b x y h p q = installs_one old (step.Place uid) a b x y h p q
+steps_one old (step.Unstage uid) a b x y h (p, c) (q, d) = (p ∙ sym q, changed_one (cmd.Unstage uid) old x y c d)
+steps_one old (step.Skip usn) a b x y h p q = takes_one _ _ a b old x y h.order.book.canonical p q
+
+next_one : (old : Machine) (n : Next) (a b : Reply) (x y : Machine) → IsSound old → AnswersNext n old a x → AnswersNext n old b y → AreOne a x b y
+next_one old (next.Do s) a b x y h p q = steps_one old s a b x y h p q
+next_one old next.Drained a b x y h (p, q) (r, s) = (p ∙ sym r, q ∙ sym s)
+next_one old (next.NotYet usn) a b x y h p q = refusals_one old (why.NotYet usn) a b x y p q
+
+install_one : (old : Machine) (a b : Reply) (x y : Machine) → IsSound old → AnswersInstall old a x → AnswersInstall old b y → AreOne a x b y
+install_one old a b x y h (n, is, p) (k, too, q) =
+    next_one old n a b x y h p (subst (λ z. AnswersNext z old b y) (members_once old.book.own (member_of old) old.book.records h.agrees k n too is) q)
+
 -- so has every event
 pub answers_are_one : AnswersAreOne
 answers_are_one at old (event.Local operation) a b x y sound h k = operations_one old a b x y (resolve old.volume.objects operation) h k
@@ -213,6 +307,7 @@ answers_are_one at old (event.Finish from place sent seen) a b x y sound (inl (n
 answers_are_one at old (event.Finish from place sent seen) a b x y sound (inr (none, h)) (inl (m, least, q)) = absurd (none m least.0)
 answers_are_one at old (event.Finish from place sent seen) a b x y sound (inr (none, h)) (inr (never, k)) =
     choice_one (first_unheld old.book.records seen) _ _ (λ u. why.Unheld u.uid) a b old x y sound.order.book.canonical h k
+answers_are_one at old event.Install a b x y sound h k = install_one old a b x y sound h k
 
 -- and a run of events
 pub runs_are_one : RunsAreOne

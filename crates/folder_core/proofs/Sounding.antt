@@ -1,19 +1,24 @@
 -- A machine stays sound, whatever its partners send.
-use Rattle.std.proofs.Common.{◌≡◌, ◌<◌, ◌≤◌, ◌-◌, ◌^◌, ℕ, true, List, Option, Some, None, refl, sym, ◌∙◌, subst, arith}
+use Rattle.std.proofs.Common.{◌≡◌, ◌<◌, ◌≤◌, ◌-◌, ◌^◌, ℕ, true, List, Option, Some, None, refl, sym, ◌∙◌, ap, subst, inl, inr, arith}
 use Rattle.std.specs.Prelude.{if◌then◌else◌, option_map}
 use Rattle.frs_base.specs.Identifiers.{content_set}
+use Rattle.frs_base.specs.Options.{In}
 use Rattle.frs_base.specs.declared.kind.MemberKind.{MemberKind}
 use Rattle.frs_base.specs.declared.version.Gvsn.{Gvsn}
+use Rattle.frs_base.specs.declared.version.Uid.{Uid}
 use Rattle.version_vector.specs.Versions.{covers}
 use Rattle.version_vector.specs.declared.interval.Interval.{Interval}
 use Rattle.win_order.specs.declared.update.Update.{Update}
 use Rattle.vol_state.specs.declared.command.VolCmd.{VolCmd}
+use Rattle.vol_state.specs.declared.command.VolCmd.TheVariants as vol
+use Rattle.vol_state.specs.declared.object.Object.{Object}
 use Rattle.vol_state.specs.Conditions.{is_allowed, step}
 use Rattle.vol_state.specs.Effects.{effect}
 use Rattle.vol_state.specs.Journal.{IsNumbered}
-use Rattle.vol_state.specs.Laws.{AreFree, KeepsNumbering, LeavesNumbersFree}
+use Rattle.vol_state.specs.Laws.{AreFree, IsInTime, KeepsNumbering, LeavesNumbersFree}
 use Rattle.vol_state.specs.Maps.{StandsOn, maps_of}
-use Rattle.vol_state.specs.Tables.{IsLocal}
+use Rattle.vol_state.specs.State.{uid_of}
+use Rattle.vol_state.specs.Tables.{IsAt}
 use Rattle.vol_state.specs.Valid.{IsVolume}
 use Rattle.vol_state.specs.Seen.{fresh_state}
 use Rattle.record_db.specs.declared.command.BookCmd.{BookCmd}
@@ -21,16 +26,19 @@ use Rattle.record_db.specs.declared.command.BookCmd.TheVariants as cmd
 use Rattle.record_db.specs.State.{BookState, IsBook, fresh_book}
 use Rattle.record_db.specs.Steps.{Changes, consumed_after}
 use Rattle.world_model.specs.Folder.{IsFit}
+use Rattle.name_rules.specs.Next.{IsDue}
 use Rattle.name_rules.specs.Tree.{is_file}
+use Rattle.name_rules.proofs.Showing.{shown_record}
 use Rattle.world_model.proofs.Folder.{folders_begin}
 use Rattle.folder_core.specs.Machine.{Machine, fresh_machine}
 use Rattle.folder_core.specs.Consume.{made_at}
-use Rattle.folder_core.specs.Sound.{IsInOrder, IsSound, member_of}
+use Rattle.folder_core.specs.Install.{MayOperate}
+use Rattle.folder_core.specs.Sound.{IsInOrder, IsSound, MayBeStaged, member_of, staged_sums}
 use Rattle.folder_core.specs.Notes.{form_sum}
-use Rattle.folder_core.proofs.Staging.{IsStageable, forms_made, forms_stay, forms_with}
+use Rattle.folder_core.proofs.Staging.{forms_made, forms_stay, forms_with, nothing_staged}
 use Rattle.folder_core.proofs.Volumes.{free_fresh, has_all, in_time, one_fid, one_usn, same_own, step_is}
-use Rattle.folder_core.proofs.Bounds.{HasClock, bounds_adopted, bounds_finished, bounds_recorded}
-use Rattle.folder_core.proofs.Agreeing.{agrees_adopted, agrees_finished, agrees_operated, agrees_recorded}
+use Rattle.folder_core.proofs.Bounds.{HasClock, bounds_adopted, bounds_finished, bounds_recorded, bounds_unstaged}
+use Rattle.folder_core.proofs.Agreeing.{agrees_adopted, agrees_finished, agrees_operated, agrees_recorded, agrees_unstaged}
 
 -- what is known of volumes
 pub record VolumeLaws : Type 0 where
@@ -62,21 +70,41 @@ fresh_is_sound kind own set same volume book = record {
     none_some : {T : Type 0} (x : T) → None ≡ Some x → ⊥
     none_some x e = cc
 
--- ---- a local operation
+-- ---- an operation on the volume
 
 -- its command is done, and has its effect
 pub does_effect : (m : Machine) (op : VolCmd) → IsSound m → m.volume.next_usn < 2 ^ 64 - 1 → is_allowed op m.volume ≡ true → step op m.volume ≡ effect op m.volume
 does_effect m op h numbers allowed = step_is op m.volume (has_all op m.volume h.order.free h.order.fids numbers) allowed
 
--- a local operation keeps a machine sound
-pub operated_sound : VolumeLaws → (m : Machine) (op : VolCmd) → IsSound m → m.volume.next_usn < 2 ^ 64 - 1 → is_allowed op m.volume ≡ true → IsLocal (maps_of m.volume) op
+-- no operation that may be done makes an object of a UID to be born
+born_in_time : (m : Machine) (op : VolCmd) → IsSound m → MayOperate m op → IsInTime op m.volume
+born_in_time m op h (inl local) = in_time op m.volume (maps_of m.volume) local
+born_in_time m op h (inr may) = by op may.due
+  where
+    by : (op : VolCmd) → IsDue (λ u. In u m.book.records) m.book.own (maps_of m.volume) (staged_sums m.book) op → IsInTime op m.volume
+    by (vol.PutNew parent name bytes) due = tt
+    by (vol.PutOver fid bytes) due = tt
+    by (vol.Mkdir parent name) due = tt
+    by (vol.Move fid parent name) due = tt
+    by (vol.Remove fid) due = tt
+    by (vol.Park fid) due = tt
+    by (vol.Erase fid) due = tt
+    by (vol.Make uid kind bytes) (u, shown, id, rest) = λ own.
+        let made : uid.version < m.book.consumed = subst (λ i. i.version < m.book.consumed) id (h.agrees.made u (shown_record (λ v. In v m.book.records) u shown) (ap (λ i. i.db) id ∙ (own ∙ h.order.own))) in
+        let low = h.order.consumed in
+        omega (arith, made, low)
+    by (vol.Rewrite fid bytes) due = tt
+    by (vol.Place fid parent name) due = tt
+
+-- an operation that may be done keeps a machine sound
+pub operated_sound : VolumeLaws → (m : Machine) (op : VolCmd) → IsSound m → m.volume.next_usn < 2 ^ 64 - 1 → is_allowed op m.volume ≡ true → MayOperate m op
     → IsVolume (effect op m.volume) → IsSound (record m { volume = effect op m.volume })
-operated_sound laws m op h numbers allowed local volume = record {
+operated_sound laws m op h numbers allowed may volume = record {
   order = record {
     own = same_own op m.volume ∙ h.order.own;
     volume = volume;
     numbered = subst IsNumbered (does_effect m op h numbers allowed) (laws.numbering op m.volume h.order.numbered);
-    free = subst AreFree (does_effect m op h numbers allowed) (laws.free op m.volume h.order.free (in_time op m.volume (maps_of m.volume) local));
+    free = subst AreFree (does_effect m op h numbers allowed) (laws.free op m.volume h.order.free (born_in_time m op h may));
     fids = let fid = one_fid op m.volume in let usn = one_usn op m.volume in let low = h.order.fids in omega (arith, fid, usn, low);
     book = h.order.book;
     consumed = let usn = one_usn op m.volume in let low = h.order.consumed in omega (arith, usn, low);
@@ -84,7 +112,7 @@ operated_sound laws m op h numbers allowed local volume = record {
   bounds = h.bounds;
   forms = h.forms;
   set = h.set;
-  agrees = agrees_operated laws.on m op h.order allowed local h.agrees;
+  agrees = agrees_operated laws.on m op h.order allowed may h.agrees;
 }
 
 -- ---- the book
@@ -114,7 +142,7 @@ recorded_sound m moment made new h is has left book c = record {
 -- what is staged of an update: the form with its hash of a present file, which is one of a local file, and nothing of all else
 pub record IsStagedOf (u : Update) (form : Option (List ℕ)) : Type 0 where
   pub sum : option_map form_sum form ≡ (if is_file u then Some u.hash else None)
-  pub local : IsStageable form
+  pub local : MayBeStaged form
 
 -- taking a fit update does
 pub adopted_sound : (m : Machine) (u : Update) (form : Option (List ℕ)) (new : BookState) → IsSound m → u.set ≡ m.book.set → u.clock < 2 ^ 62
@@ -137,4 +165,15 @@ finished_sound m sent new h fit book c = record {
   forms = forms_stay m.book new c.staged h.forms;
   set = c.set ∙ h.set;
   agrees = agrees_finished m sent new fit c h.agrees;
+}
+
+-- so does a staged form that goes
+pub unstaged_sound : (m : Machine) (uid : Uid) (fid : ℕ) (o : Object) (new : BookState) → IsSound m → IsAt (maps_of m.volume) fid o → uid_of m.book.own o ≡ uid → staged_sums m.book uid ≡ Some o.sum
+    → IsBook new → Changes (cmd.Unstage uid) m.book new → IsSound (record m { book = new })
+unstaged_sound m uid fid o new h at is staged book c = record {
+  order = order_after m (cmd.Unstage uid) new h.order h.order.consumed book c;
+  bounds = bounds_unstaged m.book new uid h.bounds c;
+  forms = forms_with m.book new uid None c.staged nothing_staged h.forms;
+  set = c.set ∙ h.set;
+  agrees = agrees_unstaged m uid fid o new at is staged c h.agrees;
 }

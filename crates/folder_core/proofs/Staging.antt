@@ -11,7 +11,7 @@ use Rattle.record_db.specs.State.{BookState, form_of}
 use Rattle.record_db.proofs.Forms.{found_with}
 use Rattle.world_model.specs.Events.{unstaged_by}
 use Rattle.folder_core.specs.Notes.{form_sum}
-use Rattle.folder_core.specs.Sound.{HasForms, staged_sums}
+use Rattle.folder_core.specs.Sound.{HasForms, IsStageable, MayBeStaged, staged_sums}
 
 -- what is staged of each file once another form is of one
 form_after : (book new : BookState) (uid : Uid) (form : Option (List ℕ)) → new.staged ≡ staged_with uid form book.staged → (id : Uid) → form_of new id ≡ with_uid (form_of book) uid form id
@@ -47,17 +47,13 @@ sums_made book new (Some u) is = sums_with book new u.uid None is
 none_some : {T : Type 0} (x : T) → None ≡ Some x → ⊥
 none_some x e = cc
 
--- the form is one of a local file, if there is one
-abbrev pub IsStageable : Option (List ℕ) → Type 0
-IsStageable staged = (form : List ℕ) → staged ≡ Some form → (contents : List ℕ) × IsLocalForm form contents
-
-pub nothing_staged : IsStageable None
+pub nothing_staged : MayBeStaged None
 nothing_staged form e = absurd (none_some form e)
 
-pub forms_with : (book new : BookState) (uid : Uid) (form : Option (List ℕ)) → new.staged ≡ staged_with uid form book.staged → IsStageable form → HasForms book → HasForms new
+pub forms_with : (book new : BookState) (uid : Uid) (form : Option (List ℕ)) → new.staged ≡ staged_with uid form book.staged → MayBeStaged form → HasForms book → HasForms new
 forms_with book new uid form is fit old id f e = by (same_uid id uid) (sym (form_after book new uid form is id) ∙ e)
   where
-    by : (b : Bool) → cond b form (form_of book id) ≡ Some f → (contents : List ℕ) × IsLocalForm f contents
+    by : (b : Bool) → cond b form (form_of book id) ≡ Some f → IsStageable f
     by true at = fit f at
     by false at = old id f at
 

@@ -6,6 +6,7 @@ pub mod Consume
 pub mod Serve
 pub mod Adopt
 pub mod Finish
+pub mod Install
 pub mod Answers
 pub mod Sound
 pub mod Replay

@@ -40,6 +40,7 @@ note_of event.Vector = note.Vector
 note_of (event.File uid) = note.File uid
 note_of (event.Adopt from at update form) = note.Adopt from at update (option_map form_sum form)
 note_of (event.Finish from at sent seen) = note.Finish from at sent seen
+note_of event.Install = note.Install
 
 -- an answer about a file
 abbrev pub file_mark_of : FileAnswer → FileMark
@@ -57,4 +58,6 @@ mark_of (reply.Sent pinned) = mark.Sent pinned.vector pinned.at
 mark_of (reply.File found) = mark.File (file_mark_of found)
 mark_of reply.Adopted = mark.Adopted
 mark_of reply.Finished = mark.Finished
+mark_of (reply.Did step) = mark.Did step
+mark_of reply.Drained = mark.Drained
 mark_of (reply.Refused why) = mark.Refused why

@@ -5,7 +5,7 @@ use Rattle.frs_base.specs.declared.kind.MemberKind.{MemberKind}
 use Rattle.folder_core.specs.declared.entry.Entry.{Entry}
 use Rattle.folder_core.specs.declared.event.Event.{Event}
 use Rattle.folder_core.specs.declared.note.Note.{Note}
-use Rattle.folder_core.specs.declared.note.Note.TheVariants.{Adopt, Consume, File, Finish, Local, Vector}
+use Rattle.folder_core.specs.declared.note.Note.TheVariants.{Adopt, Consume, File, Finish, Install, Local, Vector}
 use Rattle.folder_core.specs.declared.reply.Reply.{Reply}
 use Rattle.folder_core.specs.Machine.{Machine, fresh_machine}
 use Rattle.folder_core.specs.Notes.{mark_of, note_of}
@@ -65,6 +65,7 @@ IsEarly Vector = ⊤
 IsEarly (File uid) = ⊤
 IsEarly (Adopt from at update form) = ⊤
 IsEarly (Finish from at sent seen) = ⊤
+IsEarly Install = ⊤
 
 -- so is that of an event
 abbrev pub IsEarlyEvent : Event → Type 0

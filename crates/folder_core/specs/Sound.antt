@@ -4,7 +4,8 @@ use Rattle.std.specs.List.{AllByRecursion}
 use Rattle.frs_base.specs.Identifiers.{content_set}
 use Rattle.frs_base.specs.declared.sum.Sum.{Sum}
 use Rattle.frs_base.specs.declared.version.Uid.{Uid}
-use Rattle.marshal_form.specs.Local.{IsLocalForm}
+use Rattle.marshal_form.specs.Local.{IsLocalForm, local}
+use Rattle.marshal_form.specs.Spelling.{spelling}
 use Rattle.version_vector.specs.Versions.{covers}
 use Rattle.vol_state.specs.Journal.{IsNumbered}
 use Rattle.vol_state.specs.Laws.{AreFree}
@@ -40,9 +41,19 @@ pub record IsInBounds (book : BookState) : Type 0 where
   pub begun : 9 ≤ book.consumed
   pub clocks : AllByRecursion (λ u. u.clock < 2 ^ 62) book.records
 
--- each form that is staged is one of a local file
+-- the form of a local file, and spelled as that is
+pub record IsStageable (form : List ℕ) : Type 0 where
+  pub contents : List ℕ
+  pub is : IsLocalForm form contents
+  pub spelled : form ≡ spelling local contents
+
+-- so is what is staged, if anything is
+abbrev pub MayBeStaged : Option (List ℕ) → Type 0
+MayBeStaged staged = (form : List ℕ) → staged ≡ Some form → IsStageable form
+
+-- so is each form that a book has staged
 abbrev pub HasForms : BookState → Type 0
-HasForms book = (uid : Uid) (form : List ℕ) → form_of book uid ≡ Some form → (contents : List ℕ) × IsLocalForm form contents
+HasForms book = (uid : Uid) → MayBeStaged (form_of book uid)
 
 -- the journal's USNs run from 9 without a gap up to the next, all numbers in use are below the next ones
 pub record IsInOrder (m : Machine) : Type 0 where

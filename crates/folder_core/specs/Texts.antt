@@ -10,6 +10,7 @@ use Rattle.folder_core.specs.declared.refusal.Refusal.TheVariants as refused
 abbrev pub refusal_text : Refusal → List ℕ
 refusal_text (refused.Local why) = operation_text why
 refusal_text (refused.Skewed clock) = codes "the clock " ++ (decimal clock ++ codes " is too far ahead")
+refusal_text (refused.NotYet usn) = codes "the journal record " ++ (decimal usn ++ codes " is to be consumed first")
 refusal_text (refused.Unfit why) = unfit_text why
 refusal_text (refused.OwnAhead version) = codes "the own version " ++ (decimal version ++ codes " isn't made yet")
 refusal_text (refused.KindDiffers kind.File) = codes "a directory in place of a file"

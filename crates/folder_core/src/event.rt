@@ -36,4 +36,6 @@ pub enum Event {
         sent: Vector,
         seen: List<Update>,
     },
+    /// The installer takes its next step.
+    Install,
 }

@@ -10,6 +10,7 @@ mod adopt;
 mod book;
 mod consume;
 mod finish;
+mod install;
 mod local;
 mod serve;
 
@@ -99,6 +100,7 @@ impl Machine {
                 sent,
                 seen,
             } => self.finish(alloc, sent, seen.as_slice()),
+            Event::Install => self.install(alloc),
         }
     }
 }

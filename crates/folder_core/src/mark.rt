@@ -4,6 +4,7 @@ ghost use Rattle.folder_core.specs.Notes.{file_mark_of};
 
 use crate::Refusal;
 use frs_base::Gvsn;
+use name_rules::Step;
 use pinned_pages::FileAnswer;
 use std::alloc::{AllocError, Global};
 use version_vector::Vector;
@@ -39,6 +40,10 @@ pub enum Mark {
     Adopted,
     /// A round was finished.
     Finished,
+    /// The installer did this step.
+    Did(Step),
+    /// The installer had no step to do.
+    Drained,
     /// The event changed nothing.
     Refused(Refusal),
 }
@@ -94,6 +99,8 @@ impl Mark {
             Mark::File(found) => Mark::File(found.copy()?),
             Mark::Adopted => Mark::Adopted,
             Mark::Finished => Mark::Finished,
+            Mark::Did(step) => Mark::Did(*step),
+            Mark::Drained => Mark::Drained,
             Mark::Refused(why) => Mark::Refused(*why),
         })
     }

@@ -53,6 +53,8 @@ pub enum Note {
         sent: Vector,
         seen: List<Update>,
     },
+    /// The installer took its next step.
+    Install,
 }
 
 /// The sum of a form.
@@ -140,6 +142,7 @@ impl Note {
                 sent: sent.copy(alloc)?,
                 seen: copy_updates(alloc, seen.as_slice())?,
             },
+            Event::Install => Note::Install,
         })
     }
 
@@ -174,6 +177,7 @@ impl Note {
                 sent: sent.copy(alloc)?,
                 seen: copy_updates(alloc, seen.as_slice())?,
             },
+            Note::Install => Note::Install,
         })
     }
 }

@@ -12,6 +12,8 @@ pub enum Refusal {
     Local(Refused),
     /// The clock of the update that a journal record makes would be 2^62 or more.
     Skewed { clock: u64 },
+    /// The local journal record with this USN is to be consumed before anything is installed.
+    NotYet { usn: u64 },
     /// An update isn't one that a member takes.
     Unfit(Unfit),
     /// An update, its file or a vector has a version of the member's own database that the member
@@ -44,6 +46,7 @@ impl fmt::Display for Refusal {
         match self {
             Refusal::Local(why) => write!(f, "{why}"),
             Refusal::Skewed { clock } => write!(f, "the clock {clock} is too far ahead"),
+            Refusal::NotYet { usn } => write!(f, "the journal record {usn} is to be consumed first"),
             Refusal::Unfit(why) => write!(f, "{why}"),
             Refusal::OwnAhead { version } => write!(f, "the own version {version} isn't made yet"),
             Refusal::KindDiffers { held } => match held {

@@ -1,6 +1,7 @@
 // What a member answers.
 use crate::Refusal;
 use frs_base::Gvsn;
+use name_rules::Step;
 use pinned_pages::{FileAnswer, Pinned};
 
 /// What a member answers to an event.
@@ -22,6 +23,10 @@ pub enum Reply {
     Adopted,
     /// A round was finished.
     Finished,
+    /// The installer did this step.
+    Did(Step),
+    /// The installer has no step to do: the volume has what the records say.
+    Drained,
     /// The event changed nothing.
     Refused(Refusal),
 }

@@ -1,5 +1,5 @@
 -- What the installer does next, by the records of a member.
-use Rattle.std.specs.Prelude.{◌≡◌, ◌≢◌, ◌≤◌, ◌==◌, ◌&&◌, ◌||◌, nat_lt, ℕ, Bool, true, false, List, Option, Some, None}
+use Rattle.std.specs.Prelude.{◌≡◌, ◌≢◌, ◌⊎◌, ◌≤◌, ◌==◌, ◌&&◌, ◌||◌, nat_lt, ℕ, Bool, true, false, List, Option, Some, None}
 use Rattle.frs_base.specs.Versions.{uid_lt}
 use Rattle.frs_base.specs.declared.sum.Sum.{Sum}
 use Rattle.frs_base.specs.declared.version.Uid.{Uid}
@@ -138,7 +138,11 @@ IsTurn Records own m staged (Skip usn) =
 
 -- ---- operations
 
--- the operation of a step on the volume, with contents of the record's sum; the last two kinds have none
+-- the root, or an object, has this number
+abbrev pub IsThere : Maps → ℕ → Type 0
+IsThere m fid = (fid ≡ 0) ⊎ ((o : Object) × IsAt m fid o)
+
+-- the operation of a step on the volume; the last two kinds have none
 abbrev pub IsStepOf : (Update → Type 0) → ℕ → Maps → Step → VolCmd → Type 0
 IsStepOf Records own m (Park uid) op = (fid : ℕ) × (o : Object) × IsAt m fid o × (uid_of own o ≡ uid) × (op ≡ cmd.Park fid)
 IsStepOf Records own m (Erase uid) op = (fid : ℕ) × (o : Object) × IsAt m fid o × (uid_of own o ≡ uid) × (op ≡ cmd.Erase fid)
@@ -148,7 +152,7 @@ IsStepOf Records own m (Rewrite uid) op =
     (fid : ℕ) × (o : Object) × (bytes : List ℕ) × IsAt m fid o × (uid_of own o ≡ uid) × (op ≡ cmd.Rewrite fid bytes)
 IsStepOf Records own m (Place uid) op =
     (fid : ℕ) × (o : Object) × (u : Update) × (parent : ℕ) × IsAt m fid o × (uid_of own o ≡ uid) × Records u × (u.uid ≡ uid)
-    × (u.parent ≡ parent_uid own m parent) × (op ≡ cmd.Place fid parent u.name)
+    × IsThere m parent × (u.parent ≡ parent_uid own m parent) × (op ≡ cmd.Place fid parent u.name)
 IsStepOf Records own m (Unstage uid) op = ⊥
 IsStepOf Records own m (Skip usn) op = ⊥
 

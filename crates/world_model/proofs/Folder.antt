@@ -37,7 +37,7 @@ puts_list : (u : Update) (records : List Update) → IsRising records → PutsTo
 puts_list u records up = record { new = put_in u records; old = λ v h n. put_keeps u v records h n; only = λ v h. in_put u v records up h }
 
 -- a list in order has one record of a file
-one_of : (records : List Update) → IsRising records → (u v : Update) → In u records → In v records → u.uid ≡ v.uid → u ≡ v
+pub one_of : (records : List Update) → IsRising records → (u v : Update) → In u records → In v records → u.uid ≡ v.uid → u ≡ v
 one_of [] up u v a b s = absurd a
 one_of (r ∷ rs) up u v (inl a) (inl b) s = a ∙ sym b
 one_of (r ∷ rs) up u v (inl a) (inr b) s = absurd (uid_apart r.uid v.uid (above r v rs up.0 b) (ap (λ z. z.uid) (sym a) ∙ s))

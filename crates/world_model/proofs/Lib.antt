@@ -31,3 +31,4 @@ pub mod Views
 mod Drained
 mod Next
 mod Pending
+pub mod Alone

@@ -279,7 +279,7 @@ module _ (R : Update → Type 0) (l : IsListed R) (own : ℕ) (m : Maps) (staged
 
   -- ---- the next step has its turn
 
-  turn : (step : InstallStep) → IsNext R own m staged consumed step → IsTurn R own m staged step
+  pub turn : (step : InstallStep) → IsNext R own m staged consumed step → IsTurn R own m staged step
   turn (install_step.Park uid) n = tt
   turn (install_step.Erase uid) n = no_park (λ x c. true_false true refl (n.first (install_step.Park x) c))
   turn (install_step.Make uid) n = (no_park (λ x c. true_false true refl (n.first (install_step.Park x) c)), no_erase (λ x c. true_false true refl (n.first (install_step.Erase x) c)))
@@ -393,14 +393,17 @@ quiet_members_go_on w h d quiet = elim (least Is (decided R l d m staged consume
 pub next_steps_are_one : NextStepsAreOne
 next_steps_are_one w d a b x y = one_step a b (y.first a x.candidate) (x.first b y.candidate)
 
+-- where all is drained, no step is a candidate
+pub no_candidate : (R : Update → Type 0) (own : ℕ) (m : Maps) (staged : Uid → Option Sum) (consumed : ℕ) → ((n : ℕ) (r : VolRecord) → m.entry n ≡ Some r → n < m.next_usn)
+    → IsDrained R own m staged consumed → (s : InstallStep) → IsCandidate R own m staged consumed s → ⊥
+no_candidate R own m staged consumed entries drained (install_step.Park uid) (fid, o, p, at, id, place, n) = n (drained.park fid o p at place)
+no_candidate R own m staged consumed entries drained (install_step.Erase uid) (fid, o, u, at, id, r, is, gone) = true_false u.present (drained.erase fid o u at r (is ∙ sym id)) gone
+no_candidate R own m staged consumed entries drained (install_step.Make uid) (u, s, id, new) = let (fid, o, at, is) = drained.make u s in new fid o at (is ∙ id)
+no_candidate R own m staged consumed entries drained (install_step.Rewrite uid) (fid, o, u, at, id, r, is, file, n) = n (drained.rewrite fid o u at r (is ∙ sym id) file)
+no_candidate R own m staged consumed entries drained (install_step.Place uid) (fid, o, u, at, id, limbo, s, is) = drained.place fid o u at limbo s (is ∙ sym id)
+no_candidate R own m staged consumed entries drained (install_step.Unstage uid) (fid, o, at, id, is) = drained.unstage uid o.sum fid o is at id refl
+no_candidate R own m staged consumed entries drained (install_step.Skip usn) (r, is, at) = let low = entries usn r at in let all = drained.skip in omega (arith, low, all, is)
+
 pub drained_members_have_none : DrainedMembersHaveNone
-drained_members_have_none w h d drained step next = by step next.candidate
-  where
-    by : (s : InstallStep) → IsCandidate (IsRecordOf w d) d (w.at d).volume (w.at d).staged (w.at d).consumed s → ⊥
-    by (install_step.Park uid) (fid, o, p, at, id, place, n) = n (drained.park fid o p at place)
-    by (install_step.Erase uid) (fid, o, u, at, id, r, is, gone) = true_false u.present (drained.erase fid o u at r (is ∙ sym id)) gone
-    by (install_step.Make uid) (u, s, id, new) = let (fid, o, at, is) = drained.make u s in new fid o at (is ∙ id)
-    by (install_step.Rewrite uid) (fid, o, u, at, id, r, is, file, n) = n (drained.rewrite fid o u at r (is ∙ sym id) file)
-    by (install_step.Place uid) (fid, o, u, at, id, limbo, s, is) = drained.place fid o u at limbo s (is ∙ sym id)
-    by (install_step.Unstage uid) (fid, o, at, id, is) = drained.unstage uid o.sum fid o is at id refl
-    by (install_step.Skip usn) (r, is, at) = let low = (h.members d).numbers.entries usn r at in let all = drained.skip in omega (arith, low, all, is)
+drained_members_have_none w h d drained step next =
+    no_candidate (IsRecordOf w d) d (w.at d).volume (w.at d).staged (w.at d).consumed (h.members d).numbers.entries drained step next.candidate

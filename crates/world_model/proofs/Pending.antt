@@ -55,12 +55,28 @@ not_quiet consumed m usn (r, past, at, local) quiet = true_false r.local local (
 
 -- ---- the answer
 
+-- there is one at most
+pub one_answer : (R : Update → Type 0) (own : ℕ) (m : Maps) (staged : Uid → Option Sum) (consumed : ℕ) → ((n : ℕ) (r : VolRecord) → m.entry n ≡ Some r → n < m.next_usn)
+    → (a b : InstallNext) → IsAnswer R own m staged consumed a → IsAnswer R own m staged consumed b → a ≡ b
+one_answer R own m staged consumed entries (install_next.NotYet n) (install_next.NotYet k) a b = ap install_next.NotYet (same (a.least k b.pending) (b.least n a.pending))
+  where
+    same : n ≤ k → k ≤ n → n ≡ k
+    same p q = omega (arith, p, q)
+one_answer R own m staged consumed entries (install_next.NotYet n) (install_next.Do step) a b = absurd (not_quiet consumed m n a.pending b.0)
+one_answer R own m staged consumed entries (install_next.NotYet n) install_next.Drained a b = absurd (not_quiet consumed m n a.pending b.quiet)
+one_answer R own m staged consumed entries install_next.Drained (install_next.NotYet n) a b = absurd (not_quiet consumed m n b.pending a.quiet)
+one_answer R own m staged consumed entries install_next.Drained (install_next.Do step) a b = absurd (no_candidate R own m staged consumed entries a step b.1.candidate)
+one_answer R own m staged consumed entries install_next.Drained install_next.Drained a b = refl
+one_answer R own m staged consumed entries (install_next.Do step) (install_next.NotYet n) a b = absurd (not_quiet consumed m n b.pending a.0)
+one_answer R own m staged consumed entries (install_next.Do step) install_next.Drained a b = absurd (no_candidate R own m staged consumed entries b step a.1.candidate)
+one_answer R own m staged consumed entries (install_next.Do step) (install_next.Do other) a b = ap install_next.Do (one_step step other (b.1.first step a.1.candidate) (a.1.first other b.1.candidate))
+
 pub members_have_one_answer : MembersHaveOneAnswer
 members_have_one_answer w h d = elim (found c m (m.next_usn - c) c (omega (arith, most)) numbers.entries (omega arith) (λ j r past low at. absurd (omega (arith, past, low)))) [
-  | inl (usn, first) ↦ (install_next.NotYet usn, first, pending usn first)
+  | inl (usn, first) ↦ only (install_next.NotYet usn) first
   | inr quiet ↦ elim (quiet_members_go_on w h d quiet) [
-    | inl drained ↦ (install_next.Drained, drained, nothing quiet drained)
-    | inr (step, next, turn) ↦ (install_next.Do step, (quiet, next), does quiet step next)
+    | inl drained ↦ only install_next.Drained drained
+    | inr (step, next, turn) ↦ only (install_next.Do step) (quiet, next)
   ]
 ]
   where
@@ -76,20 +92,5 @@ members_have_one_answer w h d = elim (found c m (m.next_usn - c) c (omega (arith
     most : c ≤ m.next_usn
     most = numbers.consumed_is
 
-    pending : (usn : ℕ) → IsFirstPending c m usn → (other : InstallNext) → IsAnswerAt w d other → other ≡ install_next.NotYet usn
-    pending usn first (install_next.Do step) a = absurd (not_quiet c m usn first.pending a.0)
-    pending usn first install_next.Drained a = absurd (not_quiet c m usn first.pending a.quiet)
-    pending usn first (install_next.NotYet n) a = ap install_next.NotYet (same (a.least usn first.pending) (first.least n a.pending))
-      where
-        same : n ≤ usn → usn ≤ n → n ≡ usn
-        same p q = omega (arith, p, q)
-
-    nothing : IsQuiet c m → IsDrainedAt w d → (other : InstallNext) → IsAnswerAt w d other → other ≡ install_next.Drained
-    nothing quiet drained (install_next.Do step) a = absurd (drained_members_have_none w h d drained step a.1)
-    nothing quiet drained install_next.Drained a = refl
-    nothing quiet drained (install_next.NotYet n) a = absurd (not_quiet c m n a.pending quiet)
-
-    does : IsQuiet c m → (step : InstallStep) → IsNextAt w d step → (other : InstallNext) → IsAnswerAt w d other → other ≡ install_next.Do step
-    does quiet step next (install_next.Do other) a = ap install_next.Do (next_steps_are_one w d other step a.1 next)
-    does quiet step next install_next.Drained a = absurd (drained_members_have_none w h d a step next)
-    does quiet step next (install_next.NotYet n) a = absurd (not_quiet c m n a.pending quiet)
+    only : (next : InstallNext) → IsAnswerAt w d next → (n : InstallNext) × IsAnswerAt w d n × ((other : InstallNext) → IsAnswerAt w d other → other ≡ n)
+    only next a = (next, a, λ other b. one_answer (IsRecordOf w d) d m (w.at d).staged c numbers.entries other next b a)

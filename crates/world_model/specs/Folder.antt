@@ -1,23 +1,30 @@
 -- A member alone, whose records are a list; its partners may send anything.
-use Rattle.std.specs.Prelude.{◌≡◌, ◌≢◌, ◌<◌, ◌≤◌, ℕ, true, false, List, Option, Some, MatchOption}
+use Rattle.std.specs.Prelude.{◌≡◌, ◌≢◌, ◌<◌, ◌≤◌, ℕ, true, false, List, [], Option, Some, MatchOption}
 use Rattle.frs_base.specs.Options.{In}
+use Rattle.frs_base.specs.declared.kind.Kind.TheVariants.{File}
 use Rattle.frs_base.specs.declared.version.Gvsn.{Gvsn}
 use Rattle.frs_base.specs.declared.version.Uid.{Uid}
 use Rattle.win_order.specs.declared.update.Update.{Update}
 use Rattle.vol_state.specs.declared.object.Object.{Object}
 use Rattle.vol_state.specs.declared.record.VolRecord.{VolRecord}
 use Rattle.vol_state.specs.declared.command.VolCmd.{VolCmd}
+use Rattle.vol_state.specs.declared.command.VolCmd.TheVariants.{Make, Rewrite}
 use Rattle.vol_state.specs.State.{uid_of}
 use Rattle.vol_state.specs.Conditions.{root_uid}
+use Rattle.vol_state.specs.Sums.{content_sum}
 use Rattle.vol_state.specs.Tables.{IsAt, IsLocal, IsReplica}
 use Rattle.record_db.specs.Records.{Versions}
 use Rattle.record_db.specs.Lists.{IsRising, put_any, put_record}
 use Rattle.name_rules.specs.Recorded.{base_fence, recorded_of}
 use Rattle.name_rules.specs.Tree.{kind_of}
-use Rattle.name_rules.specs.Next.{IsDue, IsQuiet}
+use Rattle.name_rules.specs.Next.{IsAnswer, IsDue, IsNext, IsQuiet, IsStepOf}
+use Rattle.name_rules.specs.declared.step.Next.{Next}
+use Rattle.name_rules.specs.declared.step.Step.{Step}
 use Rattle.world_model.specs.World.{Member}
 use Rattle.world_model.specs.Events.{adopted_by, consumed_by, finished_by, operated, unstaged_at}
 use Rattle.world_model.specs.Invariant.{MemberIsSound}
+
+-- ---- what it keeps
 
 -- what a member alone keeps of versions: it covers just those of its own that it consumed, and each record's, which no two records share
 pub record VersionsAreKept (own : ℕ) (x : Member) (records : List Update) : Type 0 where
@@ -34,6 +41,8 @@ pub record FolderIsSound (own : ℕ) (x : Member) (records : List Update) : Type
   pub made : (u : Update) → In u records → u.uid.db ≡ own → u.uid.version < x.consumed
   pub no_root : (u : Update) → In u records → u.uid ≢ root_uid
   pub member : MemberIsSound (λ u. In u records) (λ u. In u records) own x
+
+-- ---- what may come
 
 -- an update that isn't covered, is of no version or file of the member's own that isn't made, nor of the root, and is of the kind of its file's record, or where there is none of its object
 pub record IsFit (own : ℕ) (x : Member) (records : List Update) (u : Update) : Type 0 where
@@ -62,3 +71,26 @@ pub record FoldersStaySound (own : ℕ) (x : Member) (records : List Update) : T
   pub finish : (s : Versions) → IsFitVector own x s → FolderIsSound own (finished_by s x) records
   pub consume : (moment : ℕ) (r : VolRecord) (held made : Option Update) → x.volume.entry x.consumed ≡ Some r → IsFound records r.uid held
       → made ≡ recorded_of own x.volume (base_fence x.phase x.kind) x.consumed moment r held → FolderIsSound own (consumed_by own made x) (put_any made records)
+
+-- ---- the installer
+
+-- the contents that are staged of the file; no bytes where none are
+abbrev pub AreStaged : Member → Uid → List ℕ → Type 0
+AreStaged x uid bytes = MatchOption (x.staged uid) (bytes ≡ []) (λ sum. content_sum File bytes ≡ sum)
+
+-- an operation that gives a file contents gives those that are staged
+abbrev pub GivesStaged : ℕ → Member → VolCmd → Type 0
+GivesStaged own x (Make uid kind bytes) = AreStaged x uid bytes
+GivesStaged own x (Rewrite fid bytes) = (o : Object) → IsAt x.volume fid o → AreStaged x (uid_of own o) bytes
+GivesStaged own x op = Unit {0}
+
+-- the operation of the next step, with the contents that are staged, is due and may be done
+abbrev pub StepsOfMembersFit : Type 0
+StepsOfMembersFit = (own : ℕ) (x : Member) (records : List Update) → FolderIsSound own x records → IsQuiet x.consumed x.volume → (step : Step) (op : VolCmd)
+    → IsNext (λ u. In u records) own x.volume x.staged x.consumed step → IsStepOf (λ u. In u records) own x.volume step op → GivesStaged own x op
+    → IsDue (λ u. In u records) own x.volume x.staged op × IsReplica own x.volume op
+
+-- a member alone has one answer at most when it is asked for its next step
+abbrev pub MembersAnswerOnce : Type 0
+MembersAnswerOnce = (own : ℕ) (x : Member) (records : List Update) → FolderIsSound own x records → (a b : Next)
+    → IsAnswer (λ u. In u records) own x.volume x.staged x.consumed a → IsAnswer (λ u. In u records) own x.volume x.staged x.consumed b → a ≡ b

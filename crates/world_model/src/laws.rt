@@ -1,4 +1,5 @@
 // What holds of every run.
+ghost use Rattle.world_model.specs.Folder.{MembersAnswerOnce, StepsOfMembersFit};
 ghost use Rattle.world_model.specs.Laws.{ActsAreOne, AdoptionsAreFit, AllFoldersStaySound, AllIsCounted, AllIsCountedInLives, AtMostFourAreDone, AtMostFourAreDue, CoverIsStable, CoveredIsHeld, DrainedMembersHaveNone, DrainedVolumesAreTrees, DrainedWhereNothingIsDue, EqualVectorsHaveEqualRecords, EqualVectorsHaveEqualTrees, EventsAreOne, EventsKeepTheInvariant, FinishedRoundsAreHeld, FirstLivesAreKept, FlightsCanLand, FoldersBeginSound, FreshMembersAreDrained, FreshWorldsAreSound, LivesAreRuns, LivesAreSound, MembersHaveOneAnswer, MembersStopAndStart, NextStepsAreOne, NextStepsCanBeDone, PendingObjectsStay, QuietMembersGoOn, RoundsStayTrue, RunsAreLives, RunsKeepTheInvariant, StaysCovered, StepsLowerWhatIsDue, ViewsAreThere};
 
 /// Members that have done nothing keep the invariant.
@@ -161,4 +162,11 @@ pub fn quiet_members_go_on()
 /// consumed before.
 pub fn members_have_one_answer()
     ensures { MembersHaveOneAnswer }
+{}
+
+/// A member alone, whatever its partners send it, can do the operation of its next step with the
+/// contents that it has staged, and has one answer at most when it is asked for that step.
+pub fn members_do_their_steps()
+    ensures fit { StepsOfMembersFit }
+    ensures once { MembersAnswerOnce }
 {}

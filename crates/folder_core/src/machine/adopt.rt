@@ -75,7 +75,8 @@ fn fits(update: &Update)
 
 /// The bytes are the form of a local file, and have this sum.
 fn check_form(form: &[u8], want: Sum) -> Result<(), Refusal>
-    ensures { ChecksForm form.now want tt result }
+    ensures checks { ChecksForm form.now want tt result }
+    ensures spelled { OnOk result (form.now ≡ spelling local (drop 44 form.now)) }
 {
     if let Err(bad) = unmarshal_local(form) {
         let at = bad.at as u64;
@@ -105,7 +106,8 @@ fn staged_with(
     update: &Update,
     form: Option<Bytes>,
 ) -> Result<Option<Bytes>, Refusal>
-    ensures { Stages update.now form result }
+    ensures stages { Stages update.now form result }
+    ensures spelled { IfOk result MayBeStaged }
 {
     if !is_file(update) {
         return Ok(None);

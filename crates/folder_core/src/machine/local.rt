@@ -9,6 +9,7 @@ ghost use Rattle.vol_state.specs.Tables.{IsLocal};
 ghost use Rattle.vol_state.specs.Ways.{ListsResolve, ResolvedMay};
 ghost use Rattle.folder_core.specs.Local.{AnswersLocal};
 ghost use Rattle.folder_core.specs.Given.{IsNoted};
+ghost use Rattle.folder_core.specs.Install.{MayOperate};
 
 use super::Machine;
 use crate::answer::Answer;
@@ -54,10 +55,11 @@ impl Machine {
         }
     }
 
-    /// Does the command of a local operation. After an error the machine is as it was.
-    fn operate(&mut self, alloc: Global, cmd: VolCmd) -> Result<(), AllocError>
+    /// Does the command of a local operation, or of a step of the installer. After an error the
+    /// machine is as it was.
+    pub(super) fn operate(&mut self, alloc: Global, cmd: VolCmd) -> Result<(), AllocError>
         requires allowed { is_allowed cmd self.old.volume ≡ true }
-        requires local { IsLocal (maps_of self.old.volume) cmd }
+        requires may { MayOperate self.old cmd }
         requires numbers { self.old.volume.next_usn < 2 ^ 64 - 1 }
         ensures ok { OnOk result (self.new ≡ record self.old { volume = effect cmd self.old.volume }) }
         ensures err { OnErr result (self.new ≡ self.old) }

@@ -35,16 +35,16 @@ stages u given bytes staged file is checks =
     subst (λ b. MatchBool b (ChecksForm (unwrap_or given []) u.hash (Some (unwrap_or given [])) staged) (staged ≡ Ok None)) (sym file)
     (subst (λ l. ChecksForm l u.hash (Some l) staged) is checks)
 
-pub returns-in-Err : goal.returns-in-Err
-returns-in-Err c =
+pub returns-in-Err-clause-stages : goal.returns-in-Err-clause-stages
+returns-in-Err-clause-stages c =
     let file = sym c.is_file.ensures ∙ c.if-not-is_file.false in
     let bytes = c.as_slice.result.now in
     stages c.args.update.now c.args.form bytes _ file (c.as_slice.ensures ∙ c.bytes_of-form.ensures)
-    (refused bytes c.args.update.now.hash (Some bytes) c.in-Err.why c.in-Err.ensures)
+    (refused bytes c.args.update.now.hash (Some bytes) c.in-Err.why c.in-Err.ensures.checks)
 
-pub returns-in-Ok : goal.returns-in-Ok
-returns-in-Ok c =
+pub returns-in-Ok-clause-stages : goal.returns-in-Ok-clause-stages
+returns-in-Ok-clause-stages c =
     let file = sym c.is_file.ensures ∙ c.if-not-is_file.false in
     let bytes = c.bytes_of-form.result in
     stages c.args.update.now c.args.form bytes _ file c.bytes_of-form.ensures
-    (accepted bytes c.args.update.now.hash (Some bytes) (subst (λ l. ChecksForm l c.args.update.now.hash (tt {0}) (Ok (tt {0}))) c.as_slice.ensures c.in-Ok.ensures))
+    (accepted bytes c.args.update.now.hash (Some bytes) (subst (λ l. ChecksForm l c.args.update.now.hash (tt {0}) (Ok (tt {0}))) c.as_slice.ensures c.in-Ok.ensures.checks))
