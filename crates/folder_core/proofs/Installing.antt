@@ -1,8 +1,8 @@
 -- The next step of the installer may be done.
 use Rattle.std.proofs.Common.{◌≡◌, ◌<◌, ◌-◌, ◌^◌, ◌&&◌, ℕ, Bool, true, false, not, eqb, List, [], Option, Some, None, refl, sym, ap, ◌∙◌, subst, inl, inr, arith}
-use Rattle.std.specs.Prelude.{MatchOption, option_map}
+use Rattle.std.specs.Prelude.{IsSome, MatchOption, option_map}
 use Rattle.std.proofs.lemmas.Bool.Decides.{nat_tests}
-use Rattle.frs_base.specs.Options.{In}
+use Rattle.frs_base.specs.Options.{In, some_is}
 use Rattle.frs_base.specs.declared.kind.Kind.TheVariants as kind
 use Rattle.frs_base.specs.declared.sum.Sum.{Sum}
 use Rattle.frs_base.specs.declared.version.Uid.{Uid}
@@ -84,7 +84,7 @@ allowed_of m h op may =
 -- ---- commands
 
 -- a step whose command the volume gives
-record IsReady (m : Machine) (step : Step) (of : rep.ReplicaOp) : Type 0 where
+pub record IsReady (m : Machine) (step : Step) (of : rep.ReplicaOp) : Type 0 where
   pub op : VolCmd
   pub is : IsOperation m step op
   pub given : replica m.volume of ≡ Some op
@@ -157,7 +157,7 @@ rewrites m h uid bytes (quiet, n) given =
     }
 
 -- the directory of a record that is placed: the root, or an object
-record HasParent (m : Machine) (u : Update) : Type 0 where
+pub record HasParent (m : Machine) (u : Update) : Type 0 where
   pub fid : ℕ
   pub there : IsThere (maps_of m.volume) fid
   pub is : u.parent ≡ parent_uid m.book.own (maps_of m.volume) fid
@@ -205,3 +205,24 @@ has_parent m h uid u (quiet, n) (r, id) = by (has_home m.book.own (member_of m) 
       is = sym pid ∙ (sym is ∙ sym (parent_is m.book.own (maps_of m.volume) g q h.agrees.member.numbers.root at));
       found = object_parent m u.parent g q (λ e. h.agrees.no_root p rp (pid ∙ e)) (there m h u.parent g q at (is ∙ pid)) (number m g q at);
     }
+
+-- ---- the command that the volume gives
+
+-- it gives one
+pub is_given : (m : Machine) (step : Step) (of : rep.ReplicaOp) → IsReady m step of → IsSome (replica m.volume of)
+is_given m step of ready = by (replica m.volume of) ready.given
+  where
+    by : (x : Option VolCmd) → x ≡ Some ready.op → IsSome x
+    by (Some op) e = refl
+    by None e = absurd (cc)
+
+-- which is the operation
+pub given_is : (m now : Machine) (step : Step) (of : rep.ReplicaOp) (op : VolCmd) → m ≡ now → IsReady m step of → replica m.volume of ≡ Some op → IsOperation now step op
+given_is m now step of op path ready e = subst (λ x. IsOperation x step op) path (subst (IsOperation m step) (one_op ready.op op (sym ready.given ∙ e)) ready.is)
+  where
+    one_op : (a b : VolCmd) → Some a ≡ Some b → a ≡ b
+    one_op a b e = cc
+
+-- the next step, of what equals the machine
+pub next_at : (m now : Machine) (step : Step) → m ≡ now → IsNextOf now (next.Do step) → IsNextOf m (next.Do step)
+next_at m now step path n = subst (λ x. IsNextOf x (next.Do step)) (sym path) n
