@@ -7,6 +7,7 @@ use frs_base::{
     Bytes, Guid, Gvsn, List, MemberKind, Name, Phase, Sum, Uid, content_set, database_of,
 };
 use marshal_form::{LOCAL, Meta, marshal};
+use name_rules::{Step, Subject};
 use pinned_pages::{Body, FileAnswer};
 use std::alloc::Global;
 use std::process::Abort;
@@ -96,10 +97,10 @@ fn form_of(alloc: Global, word: &str) -> Result<Option<Bytes>, Fail> {
 }
 
 /// An update of this file, made by this version at this clock; the word says of what: a `directory`, a
-/// file of a `foreign` content set, or else a file. A file has the contents `hi`.
+/// file of a `foreign` content set, a file that is `gone`, or else a file. A file has the contents `hi`.
 fn update_of(alloc: Global, word: &str, gvsn: Gvsn, uid: Uid, clock: u64) -> Result<Update, Fail> {
     Ok(Update {
-        present: true,
+        present: word != "gone",
         name_conflict: false,
         attributes: if word == "directory" { 0x10 } else { 0x20 },
         fence: 3,
@@ -219,7 +220,11 @@ fn event_of(alloc: Global, line: &str) -> Result<Event, Fail>
     ensures { IfOk result IsEarlyEvent }
 {
     let Some((word, rest)) = line.split_once(' ') else {
-        return Ok(Event::Vector);
+        return Ok(if line == "install" {
+            Event::Install
+        } else {
+            Event::Vector
+        });
     };
     if let Some(operation) = operation(alloc, word, rest)? {
         return Ok(Event::Local(operation));
@@ -240,6 +245,15 @@ fn answer_text(alloc: Global, answer: &FileAnswer) -> Result<String, Fail> {
     })
 }
 
+fn step_text(alloc: Global, step: &Step) -> Result<String, Fail> {
+    let word = step.word();
+    let number = match step.subject() {
+        Subject::Uid(uid) => uid.version,
+        Subject::Usn(usn) => usn,
+    };
+    Ok(format!(in alloc; "did {word} {number}")?)
+}
+
 fn text_of(alloc: Global, reply: &Reply) -> Result<String, Fail> {
     Ok(match reply {
         Reply::Usn(usn) => format!(in alloc; "usn {usn}")?,
@@ -257,6 +271,8 @@ fn text_of(alloc: Global, reply: &Reply) -> Result<String, Fail> {
         Reply::File(answer) => answer_text(alloc, answer)?,
         Reply::Adopted => String::from_str(alloc, "adopted")?,
         Reply::Finished => String::from_str(alloc, "finished")?,
+        Reply::Did(step) => step_text(alloc, step)?,
+        Reply::Drained => String::from_str(alloc, "drained")?,
         Reply::Refused(why) => format!(in alloc; "{why}")?,
     })
 }
@@ -384,6 +400,49 @@ fn local_refusals(rt: HostRuntime) -> Result<(), Fail> {
 put f 1 -> usn 9 | 10 9 0 0 0
 mkdir F -> the name is taken | 10 9 0 0 0
 move f f -> usn 10 | 11 9 0 0 0",
+    )
+}
+
+/// A file of a partner is made, gets other contents, leaves a place that it was moved to, and goes.
+/// The own records of the installer are passed; nothing is installed before a local record.
+#[test]
+fn what_is_pulled_is_installed(rt: HostRuntime) -> Result<(), Fail> {
+    try_alone(
+        &rt,
+        rt.alloc(),
+        "install -> drained | 9 9 0 0 0
+file 2 9 2 9 500 -> adopted | 9 9 1 1 2
+install -> did make 9 | 10 9 1 1 2
+install -> did place 9 | 11 9 1 1 2
+install -> did unstage 9 | 11 9 1 1 2
+install -> did skip 9 | 11 10 2 1 6
+install -> did skip 10 | 11 11 2 1 7
+install -> drained | 11 11 2 1 7
+get 2 9 -> found 9 at 9 with 46 | 11 11 2 1 7
+put x ho -> usn 11 | 12 11 2 1 7
+install -> the journal record 11 is to be consumed first | 12 11 2 1 7
+consume 600 -> made 11 | 12 12 2 1 12
+install -> drained | 12 12 2 1 12
+file 2 10 2 9 900 -> adopted | 12 12 2 1 14
+install -> did rewrite 9 | 13 12 2 1 14
+install -> did unstage 9 | 13 12 2 1 14
+install -> did skip 12 | 13 13 2 1 17
+install -> drained | 13 13 2 1 17
+move x y -> usn 13 | 14 13 2 1 17
+consume 1000 -> made 13 | 14 14 2 1 20
+file 2 11 2 9 1100 -> adopted | 14 14 2 1 21
+install -> did park 9 | 15 14 2 1 21
+install -> did place 9 | 16 14 2 1 21
+install -> did unstage 9 | 16 14 2 1 21
+install -> did skip 14 | 16 15 2 1 25
+install -> did skip 15 | 16 16 2 1 26
+install -> drained | 16 16 2 1 26
+gone 2 12 2 9 1200 -> adopted | 16 16 2 1 28
+install -> did park 9 | 17 16 2 1 28
+install -> did erase 9 | 18 16 2 1 28
+install -> did skip 16 | 18 17 2 1 31
+install -> did skip 17 | 18 18 2 1 32
+install -> drained | 18 18 2 1 32",
     )
 }
 
