@@ -23,7 +23,6 @@ use Rattle.record_db.proofs.Keys.{same_uid_is, uid_cases}
 use Rattle.name_rules.specs.Recorded.{base_fence, is_deletion, parent_uid}
 use Rattle.name_rules.specs.Tree.{IsShown, is_file, kind_of}
 use Rattle.name_rules.specs.Next.{IsInPlace, IsQuiet}
-use Rattle.name_rules.specs.declared.step.Step.{Step as InstallStep}
 use Rattle.name_rules.specs.declared.step.Step.TheVariants as install_step
 use Rattle.name_rules.proofs.Cases.{made_by}
 use Rattle.name_rules.proofs.Showing.{AreSame, same_back, shown_record, shown_same}
@@ -531,7 +530,7 @@ steps_lower w h d (install_step.Rewrite file) new (op, (f, o, bytes, at, is, op_
         let is' : uid_of d q ≡ file = ap (uid_of d) (some_is q o (sym there ∙ at)) ∙ is in
         op_lowers w d (cmd.Rewrite f bytes) (same_uid file) new (quiet, (q, u, there, r, id, is_present, differs, content, sum), ok, now)
         (rewrites (IsRecordOf w d) d (w.at d).volume (w.at d).staged f q bytes u file (records_one w d h) (h.members d).places there is' r (id ∙ is') is_present differs sum)
-steps_lower w h d (install_step.Place file) new (op, (f, o, v, parent, at, is, r, id, up, op_is), step) = by (subst (λ c. Step w d (Install c) new) op_is step)
+steps_lower w h d (install_step.Place file) new (op, (f, o, v, parent, at, is, r, id, here, up, op_is), step) = by (subst (λ c. Step w d (Install c) new) op_is step)
   where
     by : Step w d (Install (cmd.Place f parent v.name)) new → Lowers (SeesAt w d) (SeesAt new d) (same_uid file)
     by (quiet, (q, u, there, shown, id', up', name), (z, there', limbo, dir, apart, free), now) =

@@ -19,7 +19,6 @@ use Rattle.vol_state.specs.State.{uid_of}
 use Rattle.vol_state.specs.Sums.{content_sum}
 use Rattle.vol_state.specs.Tables.{IsAt, IsBeneath, IsFree}
 use Rattle.name_rules.specs.Next.{IsCandidate, IsPending, IsQuiet, place_lt, place_of}
-use Rattle.name_rules.specs.declared.step.Next.{Next as InstallNext}
 use Rattle.name_rules.specs.declared.step.Step.{Step as InstallStep}
 use Rattle.name_rules.specs.declared.step.Step.TheVariants as install_step
 use Rattle.name_rules.specs.declared.step.Next.TheVariants as install_next

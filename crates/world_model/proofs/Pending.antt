@@ -2,17 +2,20 @@
 use Rattle.std.proofs.Common.{◌≡◌, ◌⊎◌, ◌<◌, ◌≤◌, ◌+◌, ◌-◌, ℕ, zero, suc, Bool, true, false, ltb, refl, sym, ap, ◌∙◌, subst, arith, inl, inr, Option, Some, None}
 use Rattle.std.proofs.lemmas.Bool.{cases_eq}
 use Rattle.std.proofs.lemmas.Bool.Decides.{nat_tests}
+use Rattle.frs_base.specs.declared.sum.Sum.{Sum}
+use Rattle.frs_base.specs.declared.version.Uid.{Uid}
+use Rattle.win_order.specs.declared.update.Update.{Update}
 use Rattle.vol_state.specs.declared.record.VolRecord.{VolRecord}
 use Rattle.vol_state.specs.Maps.{Maps}
-use Rattle.name_rules.specs.Next.{IsFirstPending, IsPendingAt, IsQuiet}
+use Rattle.name_rules.specs.Next.{IsAnswer, IsFirstPending, IsPendingAt, IsQuiet}
 use Rattle.name_rules.specs.declared.step.Next.{Next as InstallNext}
-use Rattle.name_rules.specs.declared.step.Step.{Step as InstallStep}
 use Rattle.name_rules.specs.declared.step.Next.TheVariants as install_next
+use Rattle.world_model.specs.World.{IsRecordOf}
 use Rattle.world_model.specs.Invariant.{NumbersAreFresh}
-use Rattle.world_model.specs.Laws.{IsAnswerAt, IsDrainedAt, IsNextAt, MembersHaveOneAnswer}
+use Rattle.world_model.specs.Laws.{IsAnswerAt, MembersHaveOneAnswer}
 use Rattle.world_model.proofs.Facts.{none_some, some_is, true_false}
 use Rattle.world_model.proofs.Deciding.{true_decided}
-use Rattle.world_model.proofs.Next.{drained_members_have_none, next_steps_are_one, quiet_members_go_on}
+use Rattle.world_model.proofs.Next.{no_candidate, one_step, quiet_members_go_on}
 
 -- ---- the first local record that isn't consumed
 

@@ -1,31 +1,34 @@
 -- Each next step of the installer meets the condition of its operation.
-use Rattle.std.proofs.Common.{◌≡◌, ◌≢◌, ◌≤◌, ◌⊎◌, ℕ, zero, suc, Bool, true, false, not, ◌&&◌, List, [], length, refl, sym, ap, ◌∙◌, subst, arith, inl, inr, Option, Some, None}
+use Rattle.std.specs.Prelude.{MatchOption}
+use Rattle.std.proofs.Common.{◌≡◌, ◌≢◌, ◌≤◌, ◌⊎◌, ℕ, zero, suc, true, false, List, [], length, refl, sym, ap, ◌∙◌, subst, arith, inl, inr, Option, Some, None}
 use Rattle.frs_base.specs.Names.{matches}
 use Rattle.frs_base.specs.Options.{In}
 use Rattle.frs_base.specs.declared.kind.Kind.TheVariants.{File}
+use Rattle.frs_base.specs.declared.sum.Sum.{Sum}
 use Rattle.frs_base.specs.declared.version.Uid.{Uid}
 use Rattle.win_order.specs.Order.{is_directory, key_of}
 use Rattle.win_order.specs.declared.update.Update.{Update}
 use Rattle.vol_state.specs.declared.object.Object.{Object}
+use Rattle.vol_state.specs.declared.command.VolCmd.{VolCmd}
 use Rattle.vol_state.specs.declared.command.VolCmd.TheVariants as cmd
 use Rattle.vol_state.specs.Places.{is_directory as is_directory_kind}
 use Rattle.vol_state.specs.State.{uid_of}
 use Rattle.vol_state.specs.Sums.{content_sum}
 use Rattle.vol_state.specs.Conditions.{root_uid}
-use Rattle.vol_state.specs.Tables.{BeneathBy, IsAt, IsBeneath, IsDirectory, IsEmpty, IsFree}
-use Rattle.record_db.specs.Records.{IsRecord}
+use Rattle.vol_state.specs.Tables.{BeneathBy, IsAt, IsBeneath, IsDirectory, IsEmpty, IsFree, IsReplica}
 use Rattle.record_db.proofs.Best.{best_one, held_is}
 use Rattle.record_db.proofs.Keys.{key_same}
 use Rattle.name_rules.specs.Recorded.{parent_uid}
 use Rattle.name_rules.specs.Tree.{HasName, IsShown, ShownBy, is_file, kind_of}
-use Rattle.name_rules.specs.Next.{IsQuiet, NothingToMake, NothingToPark}
+use Rattle.name_rules.specs.Next.{IsCandidate, IsDue, IsQuiet, IsStepOf, IsThere, IsTurn, NothingToMake, NothingToPark}
 use Rattle.name_rules.specs.declared.step.Step.{Step as InstallStep}
 use Rattle.name_rules.specs.declared.step.Step.TheVariants as install_step
 use Rattle.name_rules.proofs.Parents.{kind_is, parent_is, parent_root}
 use Rattle.name_rules.proofs.Showing.{shown_record}
 use Rattle.world_model.specs.World.{Member, World, IsRecordOf}
-use Rattle.world_model.specs.Invariant.{HasSum, IsSound}
-use Rattle.world_model.specs.Laws.{IsDone, NextStepsCanBeDone}
+use Rattle.world_model.specs.Invariant.{HasSum, Invariant, MemberIsSound}
+use Rattle.world_model.specs.Folder.{AreStaged, GivesStaged}
+use Rattle.world_model.specs.Laws.{IsOperated, NextStepsCanBeDone}
 use Rattle.world_model.proofs.Facts.{none_some, some_is, true_false}
 use Rattle.world_model.proofs.Installed.{file_kind, file_split, no_pending}
 use Rattle.world_model.proofs.Names.{matches_is, matches_sym, matches_trans}
@@ -66,9 +69,6 @@ descend : (K R : Update → Type 0) (own : ℕ) (x : Member) → IsParked K R ow
     → (k g n : ℕ) (p : Update) (q : Object) → IsAt x.volume g q → uid_of own q ≡ p.uid → ShownBy R n p → BeneathBy x.volume f k g → (n' : ℕ) × (n' ≤ n) × ShownBy R n' u
 descend K R own x h f o u at r uid k g n p q at' uid' shown chain = go k g n p q at' uid' shown chain
   where
-    R : Update → Type 0
-    R = R
-
     here : (g n : ℕ) (p : Update) (q : Object) → IsAt x.volume g q → uid_of own q ≡ p.uid → ShownBy R n p → g ≡ f → (n' : ℕ) × (n' ≤ n) × ShownBy R n' u
     here g n p q at' uid' shown e =
         let same : q ≡ o = some_is q o (sym at' ∙ subst (λ i. x.volume.at i ≡ Some o) (sym e) at) in
@@ -188,7 +188,7 @@ given_sum x u uid bytes id staged given = subst (λ z. MatchOption z (bytes ≡ 
 
 module _ (K R : Update → Type 0) (own : ℕ) (x : Member) (m : IsMember K R own x) (quiet : IsQuiet x.consumed x.volume) where
   -- due, and its condition holds
-  MayBeDone : VolCmd → Type 0
+  abbrev MayBeDone : VolCmd → Type 0
   MayBeDone op = IsDue R own x.volume x.staged op × IsReplica own x.volume op
 
   -- the object of a file has one number
@@ -205,7 +205,7 @@ module _ (K R : Update → Type 0) (own : ℕ) (x : Member) (m : IsMember K R ow
       let here = moved f g o q uid at is at' is' in
       let parked : IsParked K R own x = record { member = m; park = park } in
       subst MayBeDone (sym e) ((o, u, here, r, id ∙ sym is, absent),
-      (o, here, in_limbo K R own x parked g o u here r (id ∙ sym is) absent o.place refl, bare K R own x parked g o u here r (id ∙ sym is) absent))
+          (o, here, in_limbo K R own x parked g o u here r (id ∙ sym is) absent o.place refl, bare K R own x parked g o u here r (id ∙ sym is) absent))
 
   make_fits : (uid : Uid) (op : VolCmd) → IsCandidate R own x.volume x.staged x.consumed (install_step.Make uid) → IsStepOf R own x.volume (install_step.Make uid) op → GivesStaged own x op → MayBeDone op
   make_fits uid op (u, shown, id, fresh) (v, bytes, r', id', e) gives = subst MayBeDone (sym e) ((v, shown_v, id', refl, sums), ((λ z. m.no_root v r' (id' ∙ z)), fresh, bare_v))
@@ -263,9 +263,9 @@ module _ (K R : Update → Type 0) (own : ℕ) (x : Member) (m : IsMember K R ow
 
   place_fits : (uid : Uid) (op : VolCmd) → NothingToPark R own x.volume → NothingToMake R own x.volume → IsCandidate R own x.volume x.staged x.consumed (install_step.Place uid)
       → IsStepOf R own x.volume (install_step.Place uid) op → MayBeDone op
-  place_fits uid op park make (f, o, u, at, is, limbo, shown, id) (g, q, v, h, at', is', r', id', there, up, e) = subst MayBeDone (sym e)
-  ((o, v, here, shown_v, own_v, up, refl), (o, here, limbo, (lands g h o v park make here shown_v own_v there up).0, (lands g h o v park make here shown_v own_v there up).1,
-  free K R own x g h o v (record { member = m; park = park }) here shown_v own_v up))
+  place_fits uid op park make (f, o, u, at, is, limbo, shown, id) (g, q, v, h, at', is', r', id', there, up, e) =
+      let (dir, apart) = lands g h o v park make here shown_v own_v there up in
+      subst MayBeDone (sym e) ((o, v, here, shown_v, own_v, up, refl), (o, here, limbo, dir, apart, free K R own x g h o v (record { member = m; park = park }) here shown_v own_v up))
     where
       here : IsAt x.volume g o
       here = moved f g o q uid at is at' is'
@@ -308,7 +308,7 @@ contents_at w h d uid (Some sum) e =
     (bytes, is_sum ∙ hash)
 
 -- the operation of a step that is not of the last two kinds
-HasOperation : World → ℕ → InstallStep → Type 0
+abbrev HasOperation : World → ℕ → InstallStep → Type 0
 HasOperation w d step = (op : VolCmd) × IsStepOf (IsRecordOf w d) d (w.at d).volume step op × GivesStaged d (w.at d) op
 
 -- it is done
@@ -320,9 +320,9 @@ operates w h d quiet step turn c (op, is, gives) =
 
 pub next_steps : NextStepsCanBeDone
 next_steps w h d quiet (install_step.Park file) turn (f, o, p, at, uid, place, out) =
-    operates w h d quiet (install_step.Park file) turn (f, o, p, at, uid, place, out) (cmd.Park f, (f, o, at, uid, refl), unit)
+    operates w h d quiet (install_step.Park file) turn (f, o, p, at, uid, place, out) (cmd.Park f, (f, o, at, uid, refl), tt)
 next_steps w h d quiet (install_step.Erase file) turn (f, o, u, at, uid, r, id, absent) =
-    operates w h d quiet (install_step.Erase file) turn (f, o, u, at, uid, r, id, absent) (cmd.Erase f, (f, o, at, uid, refl), unit)
+    operates w h d quiet (install_step.Erase file) turn (f, o, u, at, uid, r, id, absent) (cmd.Erase f, (f, o, at, uid, refl), tt)
 next_steps w h d quiet (install_step.Make file) turn (u, shown, id, fresh) =
     let (bytes, staged) = contents_at w h d file ((w.at d).staged file) refl in
     operates w h d quiet (install_step.Make file) turn (u, shown, id, fresh) (cmd.Make file (kind_of u) bytes, (u, bytes, shown_record (IsRecordOf w d) u shown, id, refl), staged)
@@ -338,9 +338,9 @@ next_steps w h d quiet (install_step.Place file) (park, erase, make, rewrite) (f
     r = shown_record (IsRecordOf w d) u shown
 
     by : HasHome (IsRecordOf w d) d (w.at d) u → HasOperation w d (install_step.Place file)
-    by (inl root) = (cmd.Place f 0 u.name, (f, o, u, 0, at, uid, r, id, inl refl, root, refl), unit)
+    by (inl root) = (cmd.Place f 0 u.name, (f, o, u, 0, at, uid, r, id, inl refl, root, refl), tt)
     by (inr (p, g, q, pid, at', uid', dir, rp)) =
-        (cmd.Place f g u.name, (f, o, u, g, at, uid, r, id, inr (q, at'), sym pid ∙ (sym uid' ∙ sym (parent_is d (w.at d).volume g q (h.members d).numbers.root at')), refl), unit)
+        (cmd.Place f g u.name, (f, o, u, g, at, uid, r, id, inr (q, at'), sym pid ∙ (sym uid' ∙ sym (parent_is d (w.at d).volume g q (h.members d).numbers.root at')), refl), tt)
 next_steps w h d quiet (install_step.Unstage file) turn (f, o, at, uid, staged) = (_, (f, o, at, uid, staged, refl))
 next_steps w h d quiet (install_step.Skip usn) turn (r, is, at) =
     let (held, is_held) = held_is w.all (w.at d).known r.uid in

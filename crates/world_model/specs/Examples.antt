@@ -11,7 +11,6 @@ use Rattle.vol_state.specs.Conditions.{root_uid}
 use Rattle.vol_state.specs.Sums.{file_sum, no_sum}
 use Rattle.record_db.specs.Records.{IsRecord, Versions, both, plus}
 use Rattle.name_rules.specs.declared.step.Next.{Next as InstallNext}
-use Rattle.name_rules.specs.declared.step.Step.{Step as InstallStep}
 use Rattle.name_rules.specs.declared.step.Step.TheVariants as install_step
 use Rattle.name_rules.specs.declared.step.Next.TheVariants as install_next
 use Rattle.name_rules.specs.Tree.{IsShown}
