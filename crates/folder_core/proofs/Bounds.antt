@@ -3,6 +3,7 @@ use Rattle.std.proofs.Common.{◌<◌, ◌≤◌, ◌^◌, ℕ, List, Option, So
 use Rattle.std.specs.Prelude.{MatchOption, option_map}
 use Rattle.std.specs.List.{AllByRecursion}
 use Rattle.version_vector.specs.declared.interval.Interval.{Interval}
+use Rattle.frs_base.specs.declared.version.Uid.{Uid}
 use Rattle.win_order.specs.declared.update.Update.{Update}
 use Rattle.record_db.specs.declared.command.BookCmd.TheVariants.{RecordLocal, Adopt, Finish, Unstage}
 use Rattle.record_db.specs.Lists.{put_any}

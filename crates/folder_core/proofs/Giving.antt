@@ -79,7 +79,7 @@ abbrev HasForm : Machine → Uid → Update → Type 0
 HasForm m uid u = (form : List ℕ) × (form_at m uid ≡ Some form) × (form_sum form ≡ u.hash) × (length form < 2 ^ 64 → (contents : List ℕ) × IsLocalForm form contents)
 
 -- the sum of contents is that of their form
-sum_is : (bytes : List ℕ) → content_sum kind.File bytes ≡ form_sum (spelling local bytes)
+pub sum_is : (bytes : List ℕ) → content_sum kind.File bytes ≡ form_sum (spelling local bytes)
 unfolding file_sum
 sum_is bytes = refl
 

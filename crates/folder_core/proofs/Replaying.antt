@@ -85,6 +85,18 @@ adopt_keeps : (old new : Machine) (said : Reply) (u : Update) (form : Option (Li
 adopt_keeps old new said u form None (staged, stages, h) = form_keeps old new said u staged h
 adopt_keeps old new said u form (Some w) h = same_keeps old new h.1
 
+-- a command on the volume leaves all else
+next_keeps : (n : Next) (old new : Machine) (said : Reply) → AnswersNext n old said new → Keeps old new
+next_keeps (next.Do (step.Park uid)) old new said h = installs_keep _ old new said h
+next_keeps (next.Do (step.Erase uid)) old new said h = installs_keep _ old new said h
+next_keeps (next.Do (step.Make uid)) old new said h = installs_keep _ old new said h
+next_keeps (next.Do (step.Rewrite uid)) old new said h = installs_keep _ old new said h
+next_keeps (next.Do (step.Place uid)) old new said h = installs_keep _ old new said h
+next_keeps (next.Do (step.Unstage uid)) old new said h = changed_keeps _ old new h.1
+next_keeps (next.Do (step.Skip usn)) old new said h = takes_keep _ _ said old new h
+next_keeps next.Drained old new said h = same_keeps old new h.1
+next_keeps (next.NotYet usn) old new said h = same_keeps old new h.1
+
 -- so does every event
 pub answers_keep : (at : ℕ) (old new : Machine) (e : Event) (said : Reply) → Answers at old e said new → Keeps old new
 answers_keep at old new (event.Local operation) said h = local_keeps old new said (resolve old.volume.objects operation) h
@@ -94,6 +106,7 @@ answers_keep at old new (event.File uid) said h = same_keeps old new h.1
 answers_keep at old new (event.Adopt from place u form) said h = adopt_keeps old new said u form (adopt_refusal old u) h
 answers_keep at old new (event.Finish from place sent seen) said (inl (version, least, refuses)) = same_keeps old new refuses.1
 answers_keep at old new (event.Finish from place sent seen) said (inr (none, h)) = choice_keeps old new said (first_unheld old.book.records seen) _ _ (λ u. why.Unheld u.uid) h
+answers_keep at old new event.Install said (n, is, h) = next_keeps n old new said h
 
 -- ---- one entry more
 

@@ -89,7 +89,7 @@ born_in_time m op h (inr may) = by op may.due
     by (vol.Remove fid) due = tt
     by (vol.Park fid) due = tt
     by (vol.Erase fid) due = tt
-    by (vol.Make uid kind bytes) (u, shown, id, rest) = λ own.
+    by (vol.Make uid kind bytes) (u, shown, id, kind_is, rest) = λ own.
         let made : uid.version < m.book.consumed = subst (λ i. i.version < m.book.consumed) id (h.agrees.made u (shown_record (λ v. In v m.book.records) u shown) (ap (λ i. i.db) id ∙ (own ∙ h.order.own))) in
         let low = h.order.consumed in
         omega (arith, made, low)

@@ -1,4 +1,4 @@
-mod Made
+pub mod Made
 mod Examples
 pub mod Cases
 pub mod Showing

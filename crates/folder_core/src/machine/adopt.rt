@@ -1,5 +1,5 @@
 // Taking a partner's update.
-ghost use Rattle.std.specs.Prelude.{◌≡◌, ◌<◌, ◌^◌, [], IfOk, OnErr, not, option_copied, option_map, unwrap_or};
+ghost use Rattle.std.specs.Prelude.{◌≡◌, ◌<◌, ◌^◌, [], IfOk, OnErr, OnOk, drop, not, option_copied, option_map, unwrap_or};
 ghost use Rattle.frs_base.specs.Options.{kept_if};
 ghost use Rattle.win_order.specs.Order.{key_lt, key_of};
 ghost use Rattle.name_rules.specs.Tree.{kind_of};
@@ -7,7 +7,9 @@ ghost use Rattle.folder_core.specs.declared.refusal.Refusal.TheVariants.{Beaten}
 ghost use Rattle.folder_core.specs.Adopt.{AnswersAdopt, ChecksForm, Stages, adopt_refusal, beaten, doubled, kind_at, kind_differs, own_ahead, same_kind, unfit};
 ghost use Rattle.folder_core.specs.Given.{IsNoted};
 ghost use Rattle.folder_core.specs.Machine.{is_ahead};
-ghost use Rattle.folder_core.specs.Sound.{IsSound};
+ghost use Rattle.folder_core.specs.Sound.{IsSound, MayBeStaged};
+ghost use Rattle.marshal_form.specs.Local.{local};
+ghost use Rattle.marshal_form.specs.Spelling.{spelling};
 
 use super::Machine;
 use crate::answer::Answer;
@@ -30,7 +32,7 @@ fn same_kind(a: Kind, b: Kind) -> bool
 }
 
 /// What an update is of.
-fn kind_of(update: &Update) -> Kind
+pub(super) fn kind_of(update: &Update) -> Kind
     ensures { result ≡ kind_of update.now }
 {
     if update.is_directory() {

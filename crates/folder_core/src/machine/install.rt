@@ -1,5 +1,5 @@
 // Steps of the installer.
-ghost use Rattle.std.specs.Prelude.{◌≡◌, ◌<◌, ◌-◌, ◌^◌, IfOk, OnErr, option_copied};
+ghost use Rattle.std.specs.Prelude.{◌≡◌, ◌<◌, ◌-◌, ◌^◌, false, IfOk, OnErr, option_copied};
 ghost use Rattle.name_rules.specs.declared.step.Next.TheVariants as next;
 ghost use Rattle.name_rules.specs.declared.step.Step.TheVariants.{Erase, Make, Park, Place, Rewrite, Skip, Unstage};
 ghost use Rattle.folder_core.specs.declared.mark.Mark.TheVariants as mark;
@@ -8,6 +8,7 @@ ghost use Rattle.folder_core.specs.Given.{IsNoted};
 ghost use Rattle.folder_core.specs.Install.{AnswersInstall, DoesStep, HasRecord, Installs, IsNextOf, IsOperation, IsRecordOf, contents_in};
 
 use super::Machine;
+use super::adopt::kind_of;
 use crate::answer::Answer;
 use crate::{Mark, Refusal, Reply};
 use frs_base::{Bytes, Uid};
@@ -23,7 +24,7 @@ const HEAD: usize = 44;
 
 /// The contents in a form, in memory of their own; none where there is no form.
 fn contents_in(alloc: Global, form: Option<&Bytes>) -> Result<Vec<u8>, AllocError>
-    ensures { IfOk result (λ bytes. bytes.items ≡ contents_in (option_copied form)) }
+    ensures { IfOk result (λ bytes. bytes.items ≡ contents_in (option_copied form.entry)) }
 {
     match form {
         None => Ok(Vec::new(alloc)),
@@ -35,34 +36,34 @@ fn contents_in(alloc: Global, form: Option<&Bytes>) -> Result<Vec<u8>, AllocErro
 }
 
 /// A step was done, and the vector is as it was.
-fn did(step: Step) -> Answer
-    ensures { result ≡ record { reply = reply.Did step; mark = mark.Did step; moved = false } }
+fn did(step: &Step) -> Answer
+    ensures { result ≡ record { reply = reply.Did step.now; mark = mark.Did step.now; moved = false } }
 {
     Answer {
-        reply: Reply::Did(step),
-        mark: Mark::Did(step),
+        reply: Reply::Did(*step),
+        mark: Mark::Did(*step),
         moved: false,
     }
 }
 
 impl Machine {
     /// The record of a file or directory that has one.
-    fn record_of(&self, uid: Uid) -> &Update
-        requires { HasRecord self.now uid }
-        ensures { IsRecordOf self.now uid result.now }
+    fn record_of(&self, uid: &Uid) -> &Update
+        requires { HasRecord self.now uid.now }
+        ensures { IsRecordOf self.now uid.now result.now }
     {
-        let Some(update) = self.book.held(uid) else {
+        let Some(update) = self.book.held(*uid) else {
             unreachable!()
         };
         update
     }
 
     /// Does a step by its operation on the volume. After an error the machine is as it was.
-    fn install_by(&mut self, alloc: Global, step: Step, cmd: VolCmd) -> Result<Answer, AllocError>
-        requires next { IsNextOf self.old (next.Do step) }
-        requires operation { IsOperation self.old step cmd }
+    fn install_by(&mut self, alloc: Global, step: &Step, cmd: VolCmd) -> Result<Answer, AllocError>
+        requires next { IsNextOf self.old (next.Do step.now) }
+        requires operation { IsOperation self.old step.now cmd }
         requires numbers { self.old.volume.next_usn < 2 ^ 64 - 1 }
-        ensures answers { IfOk result (λ answer. Installs step self.old answer.reply self.new) }
+        ensures answers { IfOk result (λ answer. Installs step.now self.old answer.reply self.new) }
         ensures noted { IfOk result (λ answer. IsNoted answer self.old self.new) }
         ensures err { OnErr result (self.new ≡ self.old) }
     {
@@ -71,80 +72,80 @@ impl Machine {
     }
 
     /// An object leaves its place.
-    fn park(&mut self, alloc: Global, uid: Uid) -> Result<Answer, AllocError>
-        requires next { IsNextOf self.old (next.Do (Park uid)) }
+    fn park(&mut self, alloc: Global, uid: &Uid) -> Result<Answer, AllocError>
+        requires next { IsNextOf self.old (next.Do (Park uid.now)) }
         requires numbers { self.old.volume.next_usn < 2 ^ 64 - 1 }
-        ensures answers { IfOk result (λ answer. DoesStep (Park uid) self.old answer.reply self.new) }
+        ensures answers { IfOk result (λ answer. DoesStep (Park uid.now) self.old answer.reply self.new) }
         ensures noted { IfOk result (λ answer. IsNoted answer self.old self.new) }
         ensures err { OnErr result (self.new ≡ self.old) }
     {
-        let cmd = self.volume.park(uid);
-        self.install_by(alloc, Step::Park(uid), cmd)
+        let cmd = self.volume.park(*uid);
+        self.install_by(alloc, &Step::Park(*uid), cmd)
     }
 
     /// The object of a file or directory that was removed goes.
-    fn erase(&mut self, alloc: Global, uid: Uid) -> Result<Answer, AllocError>
-        requires next { IsNextOf self.old (next.Do (Erase uid)) }
+    fn erase(&mut self, alloc: Global, uid: &Uid) -> Result<Answer, AllocError>
+        requires next { IsNextOf self.old (next.Do (Erase uid.now)) }
         requires numbers { self.old.volume.next_usn < 2 ^ 64 - 1 }
-        ensures answers { IfOk result (λ answer. DoesStep (Erase uid) self.old answer.reply self.new) }
+        ensures answers { IfOk result (λ answer. DoesStep (Erase uid.now) self.old answer.reply self.new) }
         ensures noted { IfOk result (λ answer. IsNoted answer self.old self.new) }
         ensures err { OnErr result (self.new ≡ self.old) }
     {
-        let cmd = self.volume.erase(uid);
-        self.install_by(alloc, Step::Erase(uid), cmd)
+        let cmd = self.volume.erase(*uid);
+        self.install_by(alloc, &Step::Erase(*uid), cmd)
     }
 
     /// An object is made in limbo, a file with the contents that are staged.
-    fn make(&mut self, alloc: Global, uid: Uid) -> Result<Answer, AllocError>
-        requires next { IsNextOf self.old (next.Do (Make uid)) }
+    fn make(&mut self, alloc: Global, uid: &Uid) -> Result<Answer, AllocError>
+        requires next { IsNextOf self.old (next.Do (Make uid.now)) }
         requires numbers { self.old.volume.next_usn < 2 ^ 64 - 1 }
-        ensures answers { IfOk result (λ answer. DoesStep (Make uid) self.old answer.reply self.new) }
+        ensures answers { IfOk result (λ answer. DoesStep (Make uid.now) self.old answer.reply self.new) }
         ensures noted { IfOk result (λ answer. IsNoted answer self.old self.new) }
         ensures err { OnErr result (self.new ≡ self.old) }
     {
-        let bytes = contents_in(alloc, self.book.form(uid))?;
+        let bytes = contents_in(alloc, self.book.form(*uid))?;
         let kind = kind_of(self.record_of(uid));
-        let cmd = self.volume.make(uid, kind, bytes);
-        self.install_by(alloc, Step::Make(uid), cmd)
+        let cmd = self.volume.make(*uid, kind, bytes);
+        self.install_by(alloc, &Step::Make(*uid), cmd)
     }
 
     /// A file gets the contents that are staged.
-    fn rewrite(&mut self, alloc: Global, uid: Uid) -> Result<Answer, AllocError>
-        requires next { IsNextOf self.old (next.Do (Rewrite uid)) }
+    fn rewrite(&mut self, alloc: Global, uid: &Uid) -> Result<Answer, AllocError>
+        requires next { IsNextOf self.old (next.Do (Rewrite uid.now)) }
         requires numbers { self.old.volume.next_usn < 2 ^ 64 - 1 }
-        ensures answers { IfOk result (λ answer. DoesStep (Rewrite uid) self.old answer.reply self.new) }
+        ensures answers { IfOk result (λ answer. DoesStep (Rewrite uid.now) self.old answer.reply self.new) }
         ensures noted { IfOk result (λ answer. IsNoted answer self.old self.new) }
         ensures err { OnErr result (self.new ≡ self.old) }
     {
-        let bytes = contents_in(alloc, self.book.form(uid))?;
-        let cmd = self.volume.rewrite(uid, bytes);
-        self.install_by(alloc, Step::Rewrite(uid), cmd)
+        let bytes = contents_in(alloc, self.book.form(*uid))?;
+        let cmd = self.volume.rewrite(*uid, bytes);
+        self.install_by(alloc, &Step::Rewrite(*uid), cmd)
     }
 
     /// An object in limbo gets its record's place.
-    fn place(&mut self, alloc: Global, uid: Uid) -> Result<Answer, AllocError>
-        requires next { IsNextOf self.old (next.Do (Place uid)) }
+    fn place(&mut self, alloc: Global, uid: &Uid) -> Result<Answer, AllocError>
+        requires next { IsNextOf self.old (next.Do (Place uid.now)) }
         requires numbers { self.old.volume.next_usn < 2 ^ 64 - 1 }
-        ensures answers { IfOk result (λ answer. DoesStep (Place uid) self.old answer.reply self.new) }
+        ensures answers { IfOk result (λ answer. DoesStep (Place uid.now) self.old answer.reply self.new) }
         ensures noted { IfOk result (λ answer. IsNoted answer self.old self.new) }
         ensures err { OnErr result (self.new ≡ self.old) }
     {
         let record = self.record_of(uid);
         let parent = record.parent;
         let name = record.name.copy()?;
-        let cmd = self.volume.place(uid, parent, name);
-        self.install_by(alloc, Step::Place(uid), cmd)
+        let cmd = self.volume.place(*uid, parent, name);
+        self.install_by(alloc, &Step::Place(*uid), cmd)
     }
 
     /// What is staged of a file goes.
-    fn unstage(&mut self, uid: Uid) -> Answer
-        requires { IsNextOf self.old (next.Do (Unstage uid)) }
-        ensures answers { DoesStep (Unstage uid) self.old result.reply self.new }
+    fn unstage(&mut self, uid: &Uid) -> Answer
+        requires { IsNextOf self.old (next.Do (Unstage uid.now)) }
+        ensures answers { DoesStep (Unstage uid.now) self.old result.reply self.new }
         ensures noted { IsNoted result self.old self.new }
     {
-        self.book.unstage(uid);
+        self.book.unstage(*uid);
         let _ = self.book.vector();
-        did(Step::Unstage(uid))
+        did(&Step::Unstage(*uid))
     }
 
     /// A journal record of the installer's own is passed.
@@ -155,16 +156,16 @@ impl Machine {
         ensures noted { IfOk result (λ answer. IsNoted answer self.old self.new) }
         ensures err { OnErr result (self.new ≡ self.old) }
     {
-        let step = Step::Skip(usn);
         let cmd = BookCmd::RecordLocal { usn, update: None };
-        self.widen(alloc, cmd, Reply::Did(step), Mark::Did(step))
+        let Answer { reply, mark, moved: _ } = did(&Step::Skip(usn));
+        self.widen(alloc, cmd, reply, mark)
     }
 
     /// Does the next step. After an error the machine is as it was.
-    fn do_step(&mut self, alloc: Global, step: Step) -> Result<Answer, AllocError>
-        requires next { IsNextOf self.old (next.Do step) }
+    fn do_step(&mut self, alloc: Global, step: &Step) -> Result<Answer, AllocError>
+        requires next { IsNextOf self.old (next.Do step.now) }
         requires numbers { self.old.volume.next_usn < 2 ^ 64 - 1 }
-        ensures answers { IfOk result (λ answer. DoesStep step self.old answer.reply self.new) }
+        ensures answers { IfOk result (λ answer. DoesStep step.now self.old answer.reply self.new) }
         ensures noted { IfOk result (λ answer. IsNoted answer self.old self.new) }
         ensures err { OnErr result (self.new ≡ self.old) }
     {
@@ -175,7 +176,7 @@ impl Machine {
             Step::Rewrite(uid) => self.rewrite(alloc, uid),
             Step::Place(uid) => self.place(alloc, uid),
             Step::Unstage(uid) => Ok(self.unstage(uid)),
-            Step::Skip(usn) => self.skip(alloc, usn),
+            Step::Skip(usn) => self.skip(alloc, *usn),
         }
     }
 
@@ -194,7 +195,7 @@ impl Machine {
         ensures err { OnErr result (self.new ≡ self.old) }
     {
         match self.next_step(alloc)? {
-            Next::Do(step) => self.do_step(alloc, step),
+            Next::Do(step) => self.do_step(alloc, &step),
             Next::Drained => Ok(Answer {
                 reply: Reply::Drained,
                 mark: Mark::Drained,
