@@ -1,6 +1,6 @@
 -- A drain ends: so many steps of the installer are done at a member, where nothing else happens between them.
 use Rattle.std.proofs.Common.{◌≡◌, ◌⊎◌, ◌≤◌, ◌+◌, ◌*◌, ◌-◌, ℕ, true, false, cond, List, [], ◌∷◌, ◌++◌, length, refl, sym, ap, ◌∙◌, subst, arith, inl, inr, Option, Some, None, sum_by}
-use Rattle.std.specs.Prelude.{count_by}
+use Rattle.std.specs.Prelude.{count_by, map}
 use Rattle.std.proofs.lemmas.List.Elements.{All-from_get_or}
 use Rattle.std.proofs.lemmas.List.Sums.{sum_by-le, sum_by-le-sum_by}
 use Rattle.frs_base.specs.Options.{In}
@@ -17,6 +17,7 @@ use Rattle.vol_state.specs.Maps.{Maps, write}
 use Rattle.vol_state.specs.Tables.{IsAt}
 use Rattle.record_db.specs.Records.{IsRecord}
 use Rattle.record_db.proofs.Keys.{same_uid_refl}
+use Rattle.record_db.proofs.Sets.{in_after, in_before}
 use Rattle.name_rules.specs.Next.{IsDue}
 use Rattle.name_rules.specs.declared.step.Step.{Step as InstallStep}
 use Rattle.name_rules.specs.declared.step.Step.TheVariants as install_step
@@ -24,11 +25,13 @@ use Rattle.name_rules.proofs.Showing.{shown_record}
 use Rattle.world_model.specs.World.{Member, World, IsRecordOf, with_member}
 use Rattle.world_model.specs.Events.{Install, Step, consumed_by, consumes, operated, unstaged_at}
 use Rattle.world_model.specs.Invariant.{Invariant}
-use Rattle.world_model.specs.Laws.{AreDone, DrainsEnd, HasAll, IsDone, is_for}
+use Rattle.world_model.specs.Laws.{AreDone, DrainsEnd, FilesAreListed, HasAll, IsDone, is_for}
 use Rattle.world_model.proofs.Changing.{at_same}
 use Rattle.world_model.proofs.Counting.{sum_more}
+use Rattle.world_model.proofs.Deciding.{IsListed, records_listed}
 use Rattle.world_model.proofs.Due.{passes, records_stay}
 use Rattle.world_model.proofs.Facts.{at_case, none_some, some_is}
+use Rattle.world_model.proofs.Next.{in_uids, is_below, uids_below}
 use Rattle.world_model.proofs.Views.{at_most_four_done, counted, kept}
 use Rattle.world_model.proofs.Writing.{changes_is, logs, loses_is, made_object, wrote}
 
@@ -176,7 +179,7 @@ drains w d uids h has (install_step.Unstage file) new (f, o, at, is, staged, now
 drains w d uids h has (install_step.Skip usn) new (moment, is, quiet, (early, made, (r, held, at, is_held, made_is), now)) =
     subst (Drains w d uids (install_step.Skip usn)) (sym (now ∙ ap (consumes w d) (passes w d moment made quiet (r, held, at, is_held, made_is)))) (passes_over w d uids h has usn r at)
 
--- ---- the law
+-- ---- the laws
 
 -- each step for a file leaves one record at most, which one other step passes over
 few_steps : (w : World) (d : ℕ) (uids : List Uid) → Invariant w → HasAll w d uids → (steps : List InstallStep) (new : World) → AreDone w d steps new → length steps ≤ 2 * for_files uids steps + left w d
@@ -196,3 +199,24 @@ drains_end w h d uids has steps new done =
     let few = few_steps w d uids h has steps new done in
     let four = four_each (λ uid. count_by (λ step. is_for step uid) steps) uids (at_most_four_done w h d steps new done) in
     omega (arith, few, four)
+
+pub files_are_listed : FilesAreListed
+files_are_listed w h d = (
+  of_objects ++ of_records,
+  record {
+    records = λ u r. in_after u.uid of_objects of_records (in_uids u l.list (l.to u r));
+    objects = λ f o at. in_before (uid_of d o) of_objects of_records (is_below d m m.next_fid f o ((h.members d).numbers.fids f o at) at);
+  },
+)
+  where
+    m : Maps
+    m = (w.at d).volume
+
+    l : IsListed (IsRecordOf w d)
+    l = records_listed w.all (w.at d).known h.versions.one_each
+
+    of_objects : List Uid
+    of_objects = uids_below d m m.next_fid
+
+    of_records : List Uid
+    of_records = map (λ u. u.uid) l.list

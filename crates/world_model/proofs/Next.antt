@@ -150,11 +150,11 @@ with_object : ℕ → Option Object → List Uid → List Uid
 with_object own None uids = uids
 with_object own (Some o) uids = uid_of own o ∷ uids
 
-uids_below : ℕ → Maps → ℕ → List Uid
+pub uids_below : ℕ → Maps → ℕ → List Uid
 uids_below own m zero = []
 uids_below own m (suc k) = with_object own (m.at k) (uids_below own m k)
 
-is_below : (own : ℕ) (m : Maps) (k fid : ℕ) (o : Object) → fid < k → IsAt m fid o → In (uid_of own o) (uids_below own m k)
+pub is_below : (own : ℕ) (m : Maps) (k fid : ℕ) (o : Object) → fid < k → IsAt m fid o → In (uid_of own o) (uids_below own m k)
 unfolding uids_below with_object
 is_below own m zero fid o l at = absurd (omega (arith, l))
 is_below own m (suc k) fid o l at = elim (cases fid l) [
@@ -169,7 +169,7 @@ is_below own m (suc k) fid o l at = elim (cases fid l) [
     behind None i = i
     behind (Some q) i = inr i
 
-in_uids : (u : Update) (us : List Update) → In u us → In u.uid (map (λ v. v.uid) us)
+pub in_uids : (u : Update) (us : List Update) → In u us → In u.uid (map (λ v. v.uid) us)
 in_uids u [] i = absurd i
 in_uids u (x ∷ us) (inl e) = inl (ap (λ v. v.uid) e)
 in_uids u (x ∷ us) (inr i) = inr (in_uids u us i)

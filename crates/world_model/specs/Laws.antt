@@ -257,6 +257,10 @@ pub record HasAll (w : World) (d : ℕ) (uids : List Uid) : Type 0 where
   pub records : (u : Update) → IsRecordOf w d u → In u.uid uids
   pub objects : (fid : ℕ) (o : Object) → IsAt (w.at d).volume fid o → In (uid_of d o) uids
 
+-- each member has such a list
+abbrev pub FilesAreListed : Type 0
+FilesAreListed = (w : World) → Invariant w → (d : ℕ) → (uids : List Uid) × HasAll w d uids
+
 -- so many steps end a drain: eight for each file, and one for each journal record that is left
 abbrev pub DrainsEnd : Type 0
 DrainsEnd = (w : World) → Invariant w → (d : ℕ) (uids : List Uid) → HasAll w d uids → (steps : List InstallStep) (new : World) → AreDone w d steps new

@@ -1,6 +1,6 @@
 // What holds of every run.
 ghost use Rattle.world_model.specs.Folder.{AnswersOfMembersAreThere, MembersAnswerOnce, StepsOfMembersFit};
-ghost use Rattle.world_model.specs.Laws.{ActsAreOne, AdoptionsAreFit, AllFoldersStaySound, AllIsCounted, AllIsCountedInLives, AtMostFourAreDone, AtMostFourAreDue, CoverIsStable, CoveredIsHeld, DrainedMembersHaveNone, DrainedVolumesAreTrees, DrainedWhereNothingIsDue, DrainsEnd, EqualVectorsHaveEqualRecords, EqualVectorsHaveEqualTrees, EventsAreOne, EventsKeepTheInvariant, FinishedRoundsAreHeld, FirstLivesAreKept, FlightsCanLand, FoldersBeginSound, FreshMembersAreDrained, FreshWorldsAreSound, LivesAreRuns, LivesAreSound, MembersHaveOneAnswer, MembersStopAndStart, NextStepsAreOne, NextStepsCanBeDone, PendingObjectsStay, QuietMembersGoOn, RoundsStayTrue, RunsAreLives, RunsKeepTheInvariant, StaysCovered, StepsLowerWhatIsDue, ViewsAreThere};
+ghost use Rattle.world_model.specs.Laws.{ActsAreOne, AdoptionsAreFit, AllFoldersStaySound, AllIsCounted, AllIsCountedInLives, AtMostFourAreDone, AtMostFourAreDue, CoverIsStable, CoveredIsHeld, DrainedMembersHaveNone, DrainedVolumesAreTrees, DrainedWhereNothingIsDue, DrainsEnd, EqualVectorsHaveEqualRecords, EqualVectorsHaveEqualTrees, EventsAreOne, EventsKeepTheInvariant, FilesAreListed, FinishedRoundsAreHeld, FirstLivesAreKept, FlightsCanLand, FoldersBeginSound, FreshMembersAreDrained, FreshWorldsAreSound, LivesAreRuns, LivesAreSound, MembersHaveOneAnswer, MembersStopAndStart, NextStepsAreOne, NextStepsCanBeDone, PendingObjectsStay, QuietMembersGoOn, RoundsStayTrue, RunsAreLives, RunsKeepTheInvariant, StaysCovered, StepsLowerWhatIsDue, ViewsAreThere};
 
 /// Members that have done nothing keep the invariant.
 pub fn fresh_worlds_are_sound()
@@ -145,9 +145,10 @@ pub fn at_most_four_are_done()
 {}
 
 /// A drain ends where nothing else happens in it: after eight steps for each file of the member, and
-/// one for each journal record that it hasn't consumed, if not before.
+/// one for each journal record that it hasn't consumed, if not before. Its files are a list.
 pub fn drains_end()
-    ensures { DrainsEnd }
+    ensures ends { DrainsEnd }
+    ensures listed { FilesAreListed }
 {}
 
 /// A member is drained where no local record is pending, all is consumed, and nothing is due for any
