@@ -7,11 +7,11 @@ use Rattle.name_rules.specs.Next.{IsNext}
 use Rattle.name_rules.specs.declared.step.Step.TheVariants as install_step
 use Rattle.name_rules.proofs.Showing.{shown_record}
 use Rattle.world_model.specs.World.{Member}
-use Rattle.world_model.specs.Folder.{FolderIsSound, MembersAnswerOnce, StepsOfMembersFit}
+use Rattle.world_model.specs.Folder.{AnswersOfMembersAreThere, FolderIsSound, MembersAnswerOnce, StepsOfMembersFit}
 use Rattle.world_model.proofs.Deciding.{IsListed}
 use Rattle.world_model.proofs.Folder.{one_of}
 use Rattle.world_model.proofs.Next.{turn}
-use Rattle.world_model.proofs.Pending.{one_answer}
+use Rattle.world_model.proofs.Pending.{has_answer, one_answer}
 use Rattle.world_model.proofs.Progress.{HasHome, IsMember, home, step_fits}
 use Rattle.world_model.proofs.Views.{HasSite, has_site}
 
@@ -47,3 +47,6 @@ has_home own x records h uid u n r id =
 
 pub answers_are_one : MembersAnswerOnce
 answers_are_one own x records h a b p q = one_answer (λ u. In u records) own x.volume x.staged x.consumed h.member.numbers.entries a b p q
+
+pub answers_there : AnswersOfMembersAreThere
+answers_there own x records h = has_answer (λ u. In u records) (listed own x records h) own x.volume x.staged x.consumed h.member.places h.member.numbers h.begun

@@ -2,7 +2,7 @@
 use Rattle.std.proofs.Common.{◌≡◌, ◌⊎◌, ◌≤◌, ◌+◌, ◌-◌, ℕ, All, List, [], ◌∷◌, length, sum_by, sym, ap, subst, arith, inl, inr, Option, Some, None}
 use Rattle.std.specs.Prelude.{option_to_list}
 use Rattle.std.proofs.lemmas.List.Elements.{All-head, All-tail}
-use Rattle.std.proofs.lemmas.List.Sums.{sum_by-cons}
+use Rattle.std.proofs.lemmas.List.Sums.{sum_by-cons, sum_by-le-sum_by}
 use Rattle.std.proofs.Common.{length-append}
 use Rattle.frs_base.specs.Options.{In}
 use Rattle.world_model.specs.World.{Member, World}
@@ -14,15 +14,12 @@ use Rattle.world_model.proofs.Growth.{step_grows}
 
 -- ---- sums
 
-sum_no_less : (f g : ℕ → ℕ) (xs : List ℕ) → ((d : ℕ) → f d ≤ g d) → sum_by f xs ≤ sum_by g xs
-sum_no_less f g [] more = omega arith
-sum_no_less f g (x ∷ xs) more = omega (arith, more x, sum_no_less f g xs more, sum_by-cons f x xs, sum_by-cons g x xs)
-
-sum_more : (f g : ℕ → ℕ) (xs : List ℕ) (k : ℕ) → ((d : ℕ) → f d ≤ g d) → f k + 1 ≤ g k → In k xs → sum_by f xs + 1 ≤ sum_by g xs
+-- a sum of terms that are no smaller, and of which one is larger
+pub sum_more : {X : Type 0} (f g : X → ℕ) (xs : List X) (k : X) → ((d : X) → f d ≤ g d) → f k + 1 ≤ g k → In k xs → sum_by f xs + 1 ≤ sum_by g xs
 sum_more f g [] k more one h = absurd h
 sum_more f g (x ∷ xs) k more one (inl e) =
     let here : f x + 1 ≤ g x = subst (λ j. f j + 1 ≤ g j) e one in
-    omega (arith, sum_no_less f g xs more, sum_by-cons f x xs, sum_by-cons g x xs)
+    omega (arith, here, sum_by-le-sum_by f g xs more, sum_by-cons f x xs, sum_by-cons g x xs)
 sum_more f g (x ∷ xs) k more one (inr h) = omega (arith, more x, sum_more f g xs k more one h, sum_by-cons f x xs, sum_by-cons g x xs)
 
 -- ---- events
@@ -64,7 +61,7 @@ run_counts members w (h ∷ hs) new begun counted all (mid, s, rest) =
     more d = let b = g.consumed d in omega (arith, b)
 
     by : (mid.all ≡ w.all) ⊎ ((length mid.all ≤ length w.all + 1) × ((mid.at h.at).consumed ≡ (w.at h.at).consumed + 1)) → length mid.all ≤ sum_by (consumed_past mid) members
-    by (inl e) = let same : length mid.all ≡ length w.all = ap length e in let sums = sum_no_less (consumed_past w) (consumed_past mid) members more in omega (arith, same, sums, counted)
+    by (inl e) = let same : length mid.all ≡ length w.all = ap length e in let sums = sum_by-le-sum_by (consumed_past w) (consumed_past mid) members more in omega (arith, same, sums, counted)
     by (inr (longer, one)) =
         let b = begun h.at in
         let up : consumed_past w h.at + 1 ≤ consumed_past mid h.at = omega (arith, b, one) in

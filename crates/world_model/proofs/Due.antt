@@ -482,26 +482,27 @@ view_alike R S own m staged uid v v' k s s' = λ i. record {
 }
 
 -- a record of the installer's own makes no update
-passes : (w : World) (d moment : ℕ) (made : Option Update) → IsQuiet (w.at d).consumed (w.at d).volume → Records w d moment made → made ≡ None
+pub passes : (w : World) (d moment : ℕ) (made : Option Update) → IsQuiet (w.at d).consumed (w.at d).volume → Records w d moment made → made ≡ None
 passes w d moment None quiet records = refl
 passes w d moment (Some u) quiet (r, held, at, is_held, is) =
     absurd (true_false r.local (made_by d (w.at d).volume (base_fence (w.at d).phase (w.at d).kind) (w.at d).consumed moment r.local (is_deletion r) held ((w.at d).volume.at r.fid) u is).0 (quiet (w.at d).consumed r (omega arith) at))
 
--- so views stay the same where it is consumed
+-- so the records stay the same where it is consumed
+pub records_stay : (w : World) (d : ℕ) → Invariant w → AreSame (IsRecordOf w d) (IsRecord (w.all ++ []) (consumed_by d None (w.at d)).known)
+records_stay w d h = record { to = λ v r. best_same v stays (consume_none w d h.versions) r; back = λ v r. best_same v (consume_none w d h.versions) stays r }
+  where
+    stays : (v : Update) → Covered w.all (w.at d).known v → Covered (w.all ++ []) (consumed_by d None (w.at d)).known v
+    stays v c = (in_before v w.all [] c.0, plus_old (w.at d).known (record { db = d; version = (w.at d).consumed }) v.gvsn c.1)
+
+-- and so do views
 skips : (w : World) (d : ℕ) → Invariant w → Lowers (SeesAt w d) (SeesAt (consumes w d None) d) (λ uid. false)
 skips w d h = subst (λ (x : Member). Lowers (SeesAt w d) (Sees (IsRecord (w.all ++ []) x.known) d x.volume x.staged) (λ uid. false)) (sym (at_same w.at d (consumed_by d None (w.at d)))) (record {
-  no_more = λ uid v v' s s'. let e : due v' ≡ due v = ap due (view_alike (IsRecordOf w d) After d (w.at d).volume (w.at d).staged uid v v' alike s s') in omega (arith, e);
+  no_more = λ uid v v' s s'. let e : due v' ≡ due v = ap due (view_alike (IsRecordOf w d) After d (w.at d).volume (w.at d).staged uid v v' (records_stay w d h) s s') in omega (arith, e);
   less = λ uid v v' t s s'. absurd (true_false false t refl);
 })
   where
     After : Update → Type 0
     After = IsRecord (w.all ++ []) (consumed_by d None (w.at d)).known
-
-    stays : (v : Update) → Covered w.all (w.at d).known v → Covered (w.all ++ []) (consumed_by d None (w.at d)).known v
-    stays v c = (in_before v w.all [] c.0, plus_old (w.at d).known (record { db = d; version = (w.at d).consumed }) v.gvsn c.1)
-
-    alike : AreSame (IsRecordOf w d) After
-    alike = record { to = λ v r. best_same v stays (consume_none w d h.versions) r; back = λ v r. best_same v (consume_none w d h.versions) stays r }
 
 pub steps_lower : StepsLowerWhatIsDue
 steps_lower w h d (install_step.Park file) new (op, (f, o, at, is, op_is), step) = by (subst (λ c. Step w d (Install c) new) op_is step)

@@ -31,4 +31,5 @@ pub mod Views
 mod Drained
 mod Next
 mod Pending
+mod Ending
 pub mod Alone

@@ -1,5 +1,5 @@
 -- A member with no pending local record is drained, or has one next step.
-use Rattle.std.proofs.Common.{◌≡◌, ◌≢◌, ◌⊎◌, ◌<◌, ℕ, zero, suc, Bool, true, false, eqb, ltb, List, [], ◌∷◌, ◌++◌, refl, sym, ap, ◌∙◌, subst, arith, inl, inr, Option, Some, None}
+use Rattle.std.proofs.Common.{◌≡◌, ◌≢◌, ◌⊎◌, ◌<◌, ◌≤◌, ℕ, zero, suc, Bool, true, false, eqb, ltb, List, [], ◌∷◌, ◌++◌, refl, sym, ap, ◌∙◌, subst, arith, inl, inr, Option, Some, None}
 use Rattle.std.specs.Prelude.{map, ◌==◌, if◌then◌else◌}
 use Rattle.std.proofs.lemmas.Bool.Decides.{nat_tests}
 use Rattle.frs_base.specs.Options.{In}
@@ -15,12 +15,12 @@ use Rattle.record_db.proofs.Keys.{uid_cases}
 use Rattle.record_db.proofs.Sets.{in_after, in_before}
 use Rattle.name_rules.specs.Recorded.{parent_uid}
 use Rattle.name_rules.specs.Tree.{IsShown, is_file}
-use Rattle.name_rules.specs.Next.{IsCandidate, IsDrained, IsInPlace, IsNext, IsTurn, NothingToErase, NothingToMake, NothingToPark, NothingToPlace, NothingToRewrite, NothingToUnstage, place_lt, place_of}
+use Rattle.name_rules.specs.Next.{IsCandidate, IsDrained, IsInPlace, IsNext, IsQuiet, IsTurn, NothingToErase, NothingToMake, NothingToPark, NothingToPlace, NothingToRewrite, NothingToUnstage, place_lt, place_of}
 use Rattle.name_rules.specs.declared.step.Step.{Step as InstallStep}
 use Rattle.name_rules.specs.declared.step.Step.TheVariants as install_step
 use Rattle.name_rules.proofs.Showing.{shown_record}
 use Rattle.world_model.specs.World.{IsRecordOf}
-use Rattle.world_model.specs.Invariant.{NumbersAreFresh}
+use Rattle.world_model.specs.Invariant.{NumbersAreFresh, PlacesAreATree}
 use Rattle.world_model.specs.Laws.{DrainedMembersHaveNone, NextStepsAreOne, QuietMembersGoOn}
 use Rattle.world_model.proofs.Facts.{none_some, some_is, true_false}
 use Rattle.world_model.proofs.Deciding.{Decided, IsListed, and_decided, list_decided, records_listed, true_decided}
@@ -150,11 +150,11 @@ with_object : ℕ → Option Object → List Uid → List Uid
 with_object own None uids = uids
 with_object own (Some o) uids = uid_of own o ∷ uids
 
-uids_below : ℕ → Maps → ℕ → List Uid
+pub uids_below : ℕ → Maps → ℕ → List Uid
 uids_below own m zero = []
 uids_below own m (suc k) = with_object own (m.at k) (uids_below own m k)
 
-is_below : (own : ℕ) (m : Maps) (k fid : ℕ) (o : Object) → fid < k → IsAt m fid o → In (uid_of own o) (uids_below own m k)
+pub is_below : (own : ℕ) (m : Maps) (k fid : ℕ) (o : Object) → fid < k → IsAt m fid o → In (uid_of own o) (uids_below own m k)
 unfolding uids_below with_object
 is_below own m zero fid o l at = absurd (omega (arith, l))
 is_below own m (suc k) fid o l at = elim (cases fid l) [
@@ -169,7 +169,7 @@ is_below own m (suc k) fid o l at = elim (cases fid l) [
     behind None i = i
     behind (Some q) i = inr i
 
-in_uids : (u : Update) (us : List Update) → In u us → In u.uid (map (λ v. v.uid) us)
+pub in_uids : (u : Update) (us : List Update) → In u us → In u.uid (map (λ v. v.uid) us)
 in_uids u [] i = absurd i
 in_uids u (x ∷ us) (inl e) = inl (ap (λ v. v.uid) e)
 in_uids u (x ∷ us) (inr i) = inr (in_uids u us i)
@@ -331,64 +331,52 @@ module _ (R : Update → Type 0) (l : IsListed R) (own : ℕ) (m : Maps) (staged
   is_one fids low (install_step.Unstage uid) (f, o, at, id, is) = (of_object fids low uid f o at id).unstage
   is_one fids low (install_step.Skip usn) (r, is, at) = subst (λ n. In (install_step.Skip n) (candidates fids)) (sym is) (skip_among (uids_below own m fids ++ map (λ u. u.uid) l.list) consumed)
 
+  -- ---- a member with no pending local record
+
+  next : (fids : ℕ) → ((fid : ℕ) (o : Object) → IsAt m fid o → fid < fids) → (s : InstallStep) → Candidate s
+      → ((o : InstallStep) → In o (candidates fids) → Candidate o → place_lt (place_of o) (place_of s) ≡ false) → IsNext R own m staged consumed s
+  next fids low s c first = record { candidate = c; first = λ o k. first o (is_one fids low o k) k }
+
+  all_consumed : NumbersAreFresh m consumed → 9 ≤ consumed → ((s : InstallStep) → Candidate s → ⊥) → consumed ≡ m.next_usn
+  all_consumed numbers begun none = elim (true_decided (ltb consumed m.next_usn)) [
+    | inl e ↦ (
+        let low : consumed < m.next_usn = grind (arith, nat_tests, e) in
+        let (r, at) = numbers.whole consumed begun low in
+        absurd (none (install_step.Skip consumed) (r, refl, at)))
+    | inr n ↦ (let most = numbers.consumed_is in grind (arith, nat_tests, n, most))
+  ]
+
+  drained : NumbersAreFresh m consumed → 9 ≤ consumed → IsQuiet consumed m → ((s : InstallStep) → Candidate s → ⊥) → IsDrained R own m staged consumed
+  drained numbers begun quiet none = record {
+    quiet = quiet;
+    park = no_park (λ x c. none (install_step.Park x) c);
+    erase = no_erase (λ x c. none (install_step.Erase x) c);
+    make = no_make (λ x c. none (install_step.Make x) c);
+    rewrite = no_rewrite (λ x c. none (install_step.Rewrite x) c);
+    place = no_place (λ x c. none (install_step.Place x) c);
+    unstage = no_unstage (λ x c. none (install_step.Unstage x) c);
+    skip = all_consumed numbers begun none;
+  }
+
+-- it is drained, or has a next step, whose turn it is
+pub goes_on : (R : Update → Type 0) → IsListed R → (own : ℕ) (m : Maps) (staged : Uid → Option Sum) (consumed : ℕ) → PlacesAreATree own m → NumbersAreFresh m consumed → 9 ≤ consumed → IsQuiet consumed m
+    → IsDrained R own m staged consumed ⊎ ((step : InstallStep) × IsNext R own m staged consumed step × IsTurn R own m staged step)
+goes_on R l own m staged consumed places numbers begun quiet = elim (least Is (decided R l own m staged consumed sites) (candidates R l own m staged consumed sites m.next_fid)) [
+  | inl (s, c, first) ↦ (let n = next R l own m staged consumed sites m.next_fid numbers.fids s c first in inr (s, n, turn R l own m staged consumed sites s n))
+  | inr none ↦ inl (drained R l own m staged consumed sites numbers begun quiet (λ s c. none s (is_one R l own m staged consumed sites m.next_fid numbers.fids s c) c))
+]
+  where
+    sites : (uid : Uid) → HasSite own m uid
+    sites uid = has_site own m consumed uid places numbers
+
+    Is : InstallStep → Type 0
+    Is = Candidate R l own m staged consumed sites
+
 -- ---- the laws
 
 pub quiet_members_go_on : QuietMembersGoOn
-quiet_members_go_on w h d quiet = elim (least Is (decided R l d m staged consumed sites) (candidates R l d m staged consumed sites m.next_fid)) [
-  | inl (s, c, first) ↦ inr (s, next s c first, turn R l d m staged consumed sites s (next s c first))
-  | inr none ↦ inl (drained (λ s c. none s (among s c) c))
-]
-  where
-    R : Update → Type 0
-    R = IsRecordOf w d
-
-    m : Maps
-    m = (w.at d).volume
-
-    staged : Uid → Option Sum
-    staged = (w.at d).staged
-
-    consumed : ℕ
-    consumed = (w.at d).consumed
-
-    l : IsListed R
-    l = records_listed w.all (w.at d).known h.versions.one_each
-
-    numbers : NumbersAreFresh m consumed
-    numbers = (h.members d).numbers
-
-    sites : (uid : Uid) → HasSite d m uid
-    sites uid = has_site d m consumed uid (h.members d).places numbers
-
-    Is : InstallStep → Type 0
-    Is = Candidate R l d m staged consumed sites
-
-    among : (s : InstallStep) → Is s → In s (candidates R l d m staged consumed sites m.next_fid)
-    among s c = is_one R l d m staged consumed sites m.next_fid numbers.fids s c
-
-    next : (s : InstallStep) → Is s → ((o : InstallStep) → In o (candidates R l d m staged consumed sites m.next_fid) → Is o → place_lt (place_of o) (place_of s) ≡ false) → IsNext R d m staged consumed s
-    next s c first = record { candidate = c; first = λ o k. first o (among o k) k }
-
-    all : ((s : InstallStep) → Is s → ⊥) → consumed ≡ m.next_usn
-    all none = elim (true_decided (ltb consumed m.next_usn)) [
-      | inl e ↦ (
-          let low : consumed < m.next_usn = grind (arith, nat_tests, e) in
-          let (r, at) = numbers.whole consumed (h.versions.begun d) low in
-          absurd (none (install_step.Skip consumed) (r, refl, at)))
-      | inr n ↦ (let most = numbers.consumed_is in grind (arith, nat_tests, n, most))
-    ]
-
-    drained : ((s : InstallStep) → Is s → ⊥) → IsDrained R d m staged consumed
-    drained none = record {
-      quiet = quiet;
-      park = no_park R l d m staged consumed sites (λ x c. none (install_step.Park x) c);
-      erase = no_erase R l d m staged consumed sites (λ x c. none (install_step.Erase x) c);
-      make = no_make R l d m staged consumed sites (λ x c. none (install_step.Make x) c);
-      rewrite = no_rewrite R l d m staged consumed sites (λ x c. none (install_step.Rewrite x) c);
-      place = no_place R l d m staged consumed sites (λ x c. none (install_step.Place x) c);
-      unstage = no_unstage R l d m staged consumed sites (λ x c. none (install_step.Unstage x) c);
-      skip = all none;
-    }
+quiet_members_go_on w h d quiet =
+    goes_on (IsRecordOf w d) (records_listed w.all (w.at d).known h.versions.one_each) d (w.at d).volume (w.at d).staged (w.at d).consumed (h.members d).places (h.members d).numbers (h.versions.begun d) quiet
 
 pub next_steps_are_one : NextStepsAreOne
 next_steps_are_one w d a b x y = one_step a b (y.first a x.candidate) (x.first b y.candidate)

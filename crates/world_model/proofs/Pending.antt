@@ -11,11 +11,11 @@ use Rattle.name_rules.specs.Next.{IsAnswer, IsFirstPending, IsPendingAt, IsQuiet
 use Rattle.name_rules.specs.declared.step.Next.{Next as InstallNext}
 use Rattle.name_rules.specs.declared.step.Next.TheVariants as install_next
 use Rattle.world_model.specs.World.{IsRecordOf}
-use Rattle.world_model.specs.Invariant.{NumbersAreFresh}
-use Rattle.world_model.specs.Laws.{IsAnswerAt, MembersHaveOneAnswer}
+use Rattle.world_model.specs.Invariant.{NumbersAreFresh, PlacesAreATree}
+use Rattle.world_model.specs.Laws.{MembersHaveOneAnswer}
 use Rattle.world_model.proofs.Facts.{none_some, some_is, true_false}
-use Rattle.world_model.proofs.Deciding.{true_decided}
-use Rattle.world_model.proofs.Next.{no_candidate, one_step, quiet_members_go_on}
+use Rattle.world_model.proofs.Deciding.{IsListed, records_listed, true_decided}
+use Rattle.world_model.proofs.Next.{goes_on, no_candidate, one_step}
 
 -- ---- the first local record that isn't consumed
 
@@ -74,26 +74,22 @@ one_answer R own m staged consumed entries (install_next.Do step) (install_next.
 one_answer R own m staged consumed entries (install_next.Do step) install_next.Drained a b = absurd (no_candidate R own m staged consumed entries b step a.1.candidate)
 one_answer R own m staged consumed entries (install_next.Do step) (install_next.Do other) a b = ap install_next.Do (one_step step other (b.1.first step a.1.candidate) (a.1.first other b.1.candidate))
 
-pub members_have_one_answer : MembersHaveOneAnswer
-members_have_one_answer w h d = elim (found c m (m.next_usn - c) c (omega (arith, most)) numbers.entries (omega arith) (λ j r past low at. absurd (omega (arith, past, low)))) [
-  | inl (usn, first) ↦ only (install_next.NotYet usn) first
-  | inr quiet ↦ elim (quiet_members_go_on w h d quiet) [
-    | inl drained ↦ only install_next.Drained drained
-    | inr (step, next, turn) ↦ only (install_next.Do step) (quiet, next)
-  ]
-]
+-- and there is one
+pub has_answer : (R : Update → Type 0) → IsListed R → (own : ℕ) (m : Maps) (staged : Uid → Option Sum) (consumed : ℕ) → PlacesAreATree own m → NumbersAreFresh m consumed → 9 ≤ consumed
+    → (next : InstallNext) × IsAnswer R own m staged consumed next
+has_answer R l own m staged consumed places numbers begun =
+    elim (found consumed m (m.next_usn - consumed) consumed (omega (arith, most)) numbers.entries (omega arith) (λ j r past low at. absurd (omega (arith, past, low)))) [
+      | inl (usn, first) ↦ (install_next.NotYet usn, first)
+      | inr quiet ↦ elim (goes_on R l own m staged consumed places numbers begun quiet) [
+        | inl drained ↦ (install_next.Drained, drained)
+        | inr (step, next, turn) ↦ (install_next.Do step, (quiet, next))
+      ]
+    ]
   where
-    c : ℕ
-    c = (w.at d).consumed
-
-    m : Maps
-    m = (w.at d).volume
-
-    numbers : NumbersAreFresh m c
-    numbers = (h.members d).numbers
-
-    most : c ≤ m.next_usn
+    most : consumed ≤ m.next_usn
     most = numbers.consumed_is
 
-    only : (next : InstallNext) → IsAnswerAt w d next → (n : InstallNext) × IsAnswerAt w d n × ((other : InstallNext) → IsAnswerAt w d other → other ≡ n)
-    only next a = (next, a, λ other b. one_answer (IsRecordOf w d) d m (w.at d).staged c numbers.entries other next b a)
+pub members_have_one_answer : MembersHaveOneAnswer
+members_have_one_answer w h d =
+    let (next, a) = has_answer (IsRecordOf w d) (records_listed w.all (w.at d).known h.versions.one_each) d (w.at d).volume (w.at d).staged (w.at d).consumed (h.members d).places (h.members d).numbers (h.versions.begun d) in
+    (next, a, λ other b. one_answer (IsRecordOf w d) d (w.at d).volume (w.at d).staged (w.at d).consumed (h.members d).numbers.entries other next b a)

@@ -204,8 +204,10 @@ module _ (K R : Update → Type 0) (own : ℕ) (x : Member) (m : IsMember K R ow
   erase_fits uid op park (f, o, u, at, is, r, id, absent) (g, q, at', is', e) =
       let here = moved f g o q uid at is at' is' in
       let parked : IsParked K R own x = record { member = m; park = park } in
-      subst MayBeDone (sym e) ((o, u, here, r, id ∙ sym is, absent),
-          (o, here, in_limbo K R own x parked g o u here r (id ∙ sym is) absent o.place refl, bare K R own x parked g o u here r (id ∙ sym is) absent))
+      subst MayBeDone (sym e) (
+        (o, u, here, r, id ∙ sym is, absent),
+        (o, here, in_limbo K R own x parked g o u here r (id ∙ sym is) absent o.place refl, bare K R own x parked g o u here r (id ∙ sym is) absent),
+      )
 
   make_fits : (uid : Uid) (op : VolCmd) → IsCandidate R own x.volume x.staged x.consumed (install_step.Make uid) → IsStepOf R own x.volume (install_step.Make uid) op → GivesStaged own x op → MayBeDone op
   make_fits uid op (u, shown, id, fresh) (v, bytes, r', id', e) gives = subst MayBeDone (sym e) ((v, shown_v, id', refl, sums), ((λ z. m.no_root v r' (id' ∙ z)), fresh, bare_v))
@@ -257,9 +259,11 @@ module _ (K R : Update → Type 0) (own : ℕ) (x : Member) (m : IsMember K R ow
       by : HasHome R own x u → IsDirectory x.volume g × (IsBeneath x.volume f g → ⊥)
       by (inl root) = absurd (m.sound.objects.no_root g q at' (sym here ∙ root))
       by (inr (p, k, t, pid, at2, uid2, dir, rp)) =
-          let there : IsAt x.volume g t = moved k g t q p.uid at2 uid2 at' (sym here ∙ sym pid) in
-          (inr (t, there, dir), λ b. no_cycle K R own x (record { member = m; park = park }) f g o t u p at (shown_record R u shown) id there uid2 pid
-              (λ z. m.no_root p rp (pid ∙ z)) b shown.0 shown.0 (omega arith) shown.1)
+          let there : IsAt x.volume g t = moved k g t q p.uid at2 uid2 at' (sym here ∙ sym pid) in (
+            inr (t, there, dir),
+            λ b. no_cycle K R own x (record { member = m; park = park }) f g o t u p at (shown_record R u shown) id there uid2 pid
+                (λ z. m.no_root p rp (pid ∙ z)) b shown.0 shown.0 (omega arith) shown.1,
+          )
 
   place_fits : (uid : Uid) (op : VolCmd) → NothingToPark R own x.volume → NothingToMake R own x.volume → IsCandidate R own x.volume x.staged x.consumed (install_step.Place uid)
       → IsStepOf R own x.volume (install_step.Place uid) op → MayBeDone op

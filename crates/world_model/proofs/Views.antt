@@ -157,7 +157,7 @@ views_there w h d uid = view_of (IsRecordOf w d) (records_listed w.all (w.at d).
 -- ---- how many steps are done
 
 -- a step that is done is an event, which keeps the invariant
-kept : (w : World) (d : ℕ) (step : InstallStep) (new : World) → Invariant w → IsDone w d step new → Invariant new
+pub kept : (w : World) (d : ℕ) (step : InstallStep) (new : World) → Invariant w → IsDone w d step new → Invariant new
 kept w d (install_step.Park file) new h (op, by, step) = step_keeps w d (Install op) new h step
 kept w d (install_step.Erase file) new h (op, by, step) = step_keeps w d (Install op) new h step
 kept w d (install_step.Make file) new h (op, by, step) = step_keeps w d (Install op) new h step
@@ -166,14 +166,18 @@ kept w d (install_step.Place file) new h (op, by, step) = step_keeps w d (Instal
 kept w d (install_step.Unstage file) new h step = step_keeps w d (Unstage file) new h step
 kept w d (install_step.Skip usn) new h (moment, is, quiet, step) = step_keeps w d (Consume moment) new h step
 
+-- the steps for a file are counted one by one
+pub counted : (step : InstallStep) (steps : List InstallStep) (uid : Uid)
+    → count_by (λ other. is_for other uid) (step ∷ steps) ≡ cond (is_for step uid) 1 0 + count_by (λ other. is_for other uid) steps
+counted step steps uid = sum_by-cons (λ other. cond (is_for other uid) 1 0) step steps
+
 -- no more are done for a file than are due
 few_done : (w : World) → Invariant w → (d : ℕ) (steps : List InstallStep) (new : World) → AreDone w d steps new → (uid : Uid) (v : View) → SeesAt w d uid v → count_by (λ step. is_for step uid) steps ≤ due v
 few_done w h d [] new done uid v s = omega arith
 few_done w h d (step ∷ steps) new (mid, done, more) uid v s =
     let (v', s') = views_there mid (kept w d step mid h done) d uid in
     let rest = few_done mid (kept w d step mid h done) d steps new more uid v' s' in
-    let counted : count_by (λ other. is_for other uid) (step ∷ steps) ≡ cond (is_for step uid) 1 0 + count_by (λ other. is_for other uid) steps = sum_by-cons (λ other. cond (is_for other uid) 1 0) step steps in
-    subst (λ n. n ≤ due v) (sym counted) (by (is_for step uid) refl v' s' rest)
+    subst (λ n. n ≤ due v) (sym (counted step steps uid)) (by (is_for step uid) refl v' s' rest)
   where
     low : Lowers (SeesAt w d) (SeesAt mid d) (is_for step)
     low = steps_lower w h d step mid done

@@ -94,3 +94,8 @@ StepsOfMembersFit = (own : ℕ) (x : Member) (records : List Update) → FolderI
 abbrev pub MembersAnswerOnce : Type 0
 MembersAnswerOnce = (own : ℕ) (x : Member) (records : List Update) → FolderIsSound own x records → (a b : Next)
     → IsAnswer (λ u. In u records) own x.volume x.staged x.consumed a → IsAnswer (λ u. In u records) own x.volume x.staged x.consumed b → a ≡ b
+
+-- and it has one
+abbrev pub AnswersOfMembersAreThere : Type 0
+AnswersOfMembersAreThere = (own : ℕ) (x : Member) (records : List Update) → FolderIsSound own x records
+    → (next : Next) × IsAnswer (λ u. In u records) own x.volume x.staged x.consumed next

@@ -1,5 +1,5 @@
 -- What holds of every run.
-use Rattle.std.specs.Prelude.{◌≡◌, ◌⊎◌, ◌↔◌, ◌<◌, ◌≤◌, ◌-◌, ℕ, true, false, All, List, [], Option, length, sum_by, Bool, ◌∷◌, count_by, map}
+use Rattle.std.specs.Prelude.{◌≡◌, ◌⊎◌, ◌↔◌, ◌<◌, ◌≤◌, ◌+◌, ◌*◌, ◌-◌, ℕ, true, false, All, List, [], Option, length, sum_by, Bool, ◌∷◌, count_by, map}
 use Rattle.frs_base.specs.Options.{In}
 use Rattle.frs_base.specs.Versions.{same_uid}
 use Rattle.frs_base.specs.declared.kind.Kind.{Kind}
@@ -251,6 +251,20 @@ AreDone w d (step ∷ steps) new = (mid : World) × IsDone w d step mid × AreDo
 -- so at most four are done for a file, where nothing else happens between them
 abbrev pub AtMostFourAreDone : Type 0
 AtMostFourAreDone = (w : World) → Invariant w → (d : ℕ) (steps : List InstallStep) (new : World) → AreDone w d steps new → (uid : Uid) → count_by (λ step. is_for step uid) steps ≤ 4
+
+-- the files of a list are all that a member has a record or an object of
+pub record HasAll (w : World) (d : ℕ) (uids : List Uid) : Type 0 where
+  pub records : (u : Update) → IsRecordOf w d u → In u.uid uids
+  pub objects : (fid : ℕ) (o : Object) → IsAt (w.at d).volume fid o → In (uid_of d o) uids
+
+-- each member has such a list
+abbrev pub FilesAreListed : Type 0
+FilesAreListed = (w : World) → Invariant w → (d : ℕ) → (uids : List Uid) × HasAll w d uids
+
+-- so many steps end a drain: eight for each file, and one for each journal record that is left
+abbrev pub DrainsEnd : Type 0
+DrainsEnd = (w : World) → Invariant w → (d : ℕ) (uids : List Uid) → HasAll w d uids → (steps : List InstallStep) (new : World) → AreDone w d steps new
+    → length steps ≤ 8 * length uids + ((w.at d).volume.next_usn - (w.at d).consumed)
 
 -- ---- drained members
 

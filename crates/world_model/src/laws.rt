@@ -1,6 +1,6 @@
 // What holds of every run.
-ghost use Rattle.world_model.specs.Folder.{MembersAnswerOnce, StepsOfMembersFit};
-ghost use Rattle.world_model.specs.Laws.{ActsAreOne, AdoptionsAreFit, AllFoldersStaySound, AllIsCounted, AllIsCountedInLives, AtMostFourAreDone, AtMostFourAreDue, CoverIsStable, CoveredIsHeld, DrainedMembersHaveNone, DrainedVolumesAreTrees, DrainedWhereNothingIsDue, EqualVectorsHaveEqualRecords, EqualVectorsHaveEqualTrees, EventsAreOne, EventsKeepTheInvariant, FinishedRoundsAreHeld, FirstLivesAreKept, FlightsCanLand, FoldersBeginSound, FreshMembersAreDrained, FreshWorldsAreSound, LivesAreRuns, LivesAreSound, MembersHaveOneAnswer, MembersStopAndStart, NextStepsAreOne, NextStepsCanBeDone, PendingObjectsStay, QuietMembersGoOn, RoundsStayTrue, RunsAreLives, RunsKeepTheInvariant, StaysCovered, StepsLowerWhatIsDue, ViewsAreThere};
+ghost use Rattle.world_model.specs.Folder.{AnswersOfMembersAreThere, MembersAnswerOnce, StepsOfMembersFit};
+ghost use Rattle.world_model.specs.Laws.{ActsAreOne, AdoptionsAreFit, AllFoldersStaySound, AllIsCounted, AllIsCountedInLives, AtMostFourAreDone, AtMostFourAreDue, CoverIsStable, CoveredIsHeld, DrainedMembersHaveNone, DrainedVolumesAreTrees, DrainedWhereNothingIsDue, DrainsEnd, EqualVectorsHaveEqualRecords, EqualVectorsHaveEqualTrees, EventsAreOne, EventsKeepTheInvariant, FilesAreListed, FinishedRoundsAreHeld, FirstLivesAreKept, FlightsCanLand, FoldersBeginSound, FreshMembersAreDrained, FreshWorldsAreSound, LivesAreRuns, LivesAreSound, MembersHaveOneAnswer, MembersStopAndStart, NextStepsAreOne, NextStepsCanBeDone, PendingObjectsStay, QuietMembersGoOn, RoundsStayTrue, RunsAreLives, RunsKeepTheInvariant, StaysCovered, StepsLowerWhatIsDue, ViewsAreThere};
 
 /// Members that have done nothing keep the invariant.
 pub fn fresh_worlds_are_sound()
@@ -144,6 +144,13 @@ pub fn at_most_four_are_done()
     ensures { AtMostFourAreDone }
 {}
 
+/// A drain ends where nothing else happens in it: after eight steps for each file of the member, and
+/// one for each journal record that it hasn't consumed, if not before. Its files are a list.
+pub fn drains_end()
+    ensures ends { DrainsEnd }
+    ensures listed { FilesAreListed }
+{}
+
 /// A member is drained where no local record is pending, all is consumed, and nothing is due for any
 /// file; and so is one that has done nothing.
 pub fn members_are_drained_where_nothing_is_due()
@@ -165,8 +172,9 @@ pub fn members_have_one_answer()
 {}
 
 /// A member alone, whatever its partners send it, can do the operation of its next step with the
-/// contents that it has staged, and has one answer at most when it is asked for that step.
+/// contents that it has staged, and has one answer when it is asked for that step.
 pub fn members_do_their_steps()
     ensures fit { StepsOfMembersFit }
     ensures once { MembersAnswerOnce }
+    ensures there { AnswersOfMembersAreThere }
 {}
