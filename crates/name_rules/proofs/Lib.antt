@@ -10,3 +10,4 @@ pub mod Children
 pub mod Flags
 pub mod Descending
 pub mod Found
+pub mod Winning

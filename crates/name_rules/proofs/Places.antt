@@ -47,7 +47,7 @@ ties_turn : (u v : Update) → same_place u v ≡ true → same_place v u ≡ tr
 ties_turn u v e =
     same_place_is v u ∙ ap is_eq (tied_back place_total u v (is_equal (place_cmp u v) (sym (same_place_is u v) ∙ e)))
 
-not_below_itself : (u : Update) → key_lt (key_of u) (key_of u) ≡ false
+pub not_below_itself : (u : Update) → key_lt (key_of u) (key_of u) ≡ false
 not_below_itself u = key_lt_is (key_of u) (key_of u) ∙ ap is_lt (tied_itself key_total (key_of u))
 
 rank_itself : (u : Update) → rank_lt u u ≡ false
@@ -186,15 +186,15 @@ last_by_place (x ∷ y ∷ us) r = by (same_place x y) refl (last_by_place (y �
 
 -- ---- together
 
-and_left : (a b : Bool) → (a && b) ≡ true → a ≡ true
+pub and_left : (a b : Bool) → (a && b) ≡ true → a ≡ true
 and_left true b e = refl
 and_left false b e = absurd (cc)
 
-and_right : (a b : Bool) → (a && b) ≡ true → b ≡ true
+pub and_right : (a b : Bool) → (a && b) ≡ true → b ≡ true
 and_right true b e = e
 and_right false b e = absurd (cc)
 
-both : (a b : Bool) → a ≡ true → b ≡ true → (a && b) ≡ true
+pub both : (a b : Bool) → a ≡ true → b ≡ true → (a && b) ≡ true
 both a b p q = λ i. (ap (λ x. x && b) p ∙ q) i
 
 pub are_named : (records ranked : List Update) → AreDistinct records → IsRanked records ranked → AreNamed records (last_of_places ranked)

@@ -4,3 +4,4 @@ pub mod Next
 pub mod Examples
 pub mod Shown
 pub mod Steps
+pub mod Winner

@@ -10,6 +10,7 @@ mod kinds;
 mod laws;
 mod named;
 mod step;
+mod winner;
 
 pub use descent::shown;
 pub use kinds::is_file;
@@ -19,3 +20,4 @@ pub use laws::{
     pending_records_come_first,
 };
 pub use step::{Next, Step, Subject};
+pub use winner::name_winner;
