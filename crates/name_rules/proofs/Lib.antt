@@ -11,3 +11,5 @@ pub mod Flags
 pub mod Descending
 pub mod Found
 pub mod Winning
+pub mod Sorting
+pub mod Deepening

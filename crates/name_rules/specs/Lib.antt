@@ -5,3 +5,4 @@ pub mod Examples
 pub mod Shown
 pub mod Steps
 pub mod Winner
+pub mod Rows

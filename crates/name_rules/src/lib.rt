@@ -9,6 +9,7 @@ mod descent;
 mod kinds;
 mod laws;
 mod named;
+mod rows;
 mod step;
 mod winner;
 
@@ -19,5 +20,6 @@ pub use laws::{
     matching_names_show_the_greatest, nothing_is_made_of_a_replica_record,
     pending_records_come_first,
 };
+pub use rows::{TreeRow, depth_order};
 pub use step::{Next, Step, Subject};
 pub use winner::name_winner;
