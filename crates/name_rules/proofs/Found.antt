@@ -164,15 +164,15 @@ sorted_once (x ∷ xs) up each = (all_in (λ v. uid_lt x v ≡ true) xs above, s
             let s = sum_by-cons (is_this x) x xs in
             absurd (omega arith)
 
-pub are_shown : (records named : List Update) (flags : List Bool) (queue : List ℕ) (uids : List Uid) → AreDistinct records → AreNamed records named → Descends named flags queue
+pub are_shown : (records named : List Update) (flags : List Bool) (queue : List ℕ) (above : List (Option ℕ)) (uids : List Uid) → AreDistinct records → AreNamed records named → Descends named flags queue above
     → IsPermutation (uids_at named queue) uids → IsSortedBy (λ u v. is_lt (uid_cmp u v)) uids → AreShown records uids
-are_shown records named flags queue uids distinct names d moved up = record {
+are_shown records named flags queue above uids distinct names d moved up = record {
   ordered = sorted_once uids up (λ uid. subst (λ n. n ≤ 1) (sym (sum_by-IsPermutation (is_this uid) found uids moved)) (at_most_once named (one_each records named distinct names) queue d.flagged.apart uid));
   each = λ uid h.
       let p = place_of named queue uid (contains_in found uid (Contains-permutation uids found uid (IsPermutation-sym found uids moved) (in_contains uids uid h))) in
       (p.update, d.shown records names.each p.place p.update p.there p.at, sym p.is);
   whole = λ u shown.
-      let (k, there, at) = finds records named flags queue names d u shown in
+      let (k, there, at) = finds records named flags queue above names d u shown in
       contains_in uids u.uid (Contains-permutation found uids u.uid moved (in_contains found u.uid (file_of named queue k u there at)));
 }
   where
