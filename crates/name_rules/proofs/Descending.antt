@@ -20,7 +20,7 @@ pub record Descending (named : List Update) (next : ℕ) (flags : List Bool) (qu
   pub shown : (records : List Update) → ((u : Update) → In u named → HasName (Among records) u) → (k : ℕ) (u : Update) → In k queue → slice_get named k ≡ Some u → IsShown (Among records) u
   pub hung : AreHung named queue above
 
-one_value : {X : Type 0} (a b : X) → Some a ≡ Some b → a ≡ b
+pub one_value : {X : Type 0} (a b : X) → Some a ≡ Some b → a ≡ b
 one_value a b e = ap (λ o. unwrap_or o a) e
 
 get_front : {X : Type 0} (xs ys : List X) (i : ℕ) → i < length xs → slice_get (xs ++ ys) i ≡ slice_get xs i

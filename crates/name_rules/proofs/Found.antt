@@ -123,7 +123,7 @@ twice x u xs all h e =
     let both : true ≡ false = sym low ∙ level in
     cc
 
-once_placed : (us : List Update) → AreByPlace us → (j k : ℕ) (u : Update) → slice_get us j ≡ Some u → slice_get us k ≡ Some u → j ≡ k
+pub once_placed : (us : List Update) → AreByPlace us → (j k : ℕ) (u : Update) → slice_get us j ≡ Some u → slice_get us k ≡ Some u → j ≡ k
 once_placed [] o j k u p q = absurd (cc)
 once_placed (x ∷ xs) o zero zero u p q = refl
 once_placed (x ∷ xs) o zero (suc k) u p q = absurd (twice x u xs o.0 (got_in xs k u q) (ap (λ o. unwrap_or o x) p))

@@ -13,3 +13,4 @@ pub mod Found
 pub mod Winning
 pub mod Sorting
 pub mod Deepening
+pub mod Rooted

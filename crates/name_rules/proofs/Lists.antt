@@ -78,6 +78,11 @@ in_got [] x h = absurd h
 in_got (z ∷ xs) x (inl e) = (0, ap Some (sym e))
 in_got (z ∷ xs) x (inr h) = let (k, e) = in_got xs x h in (suc k, e)
 
+pub some_at : {X : Type 0} (xs : List X) (k : ℕ) → k < length xs → (x : X) × (slice_get xs k ≡ Some x)
+some_at [] k l = absurd (omega arith)
+some_at (z ∷ xs) zero l = (z, refl)
+some_at (z ∷ xs) (suc k) l = some_at xs k (omega arith)
+
 pub in_front : {X : Type 0} (xs ys : List X) (x : X) → In x xs → In x (xs ++ ys)
 in_front [] ys x h = absurd h
 in_front (z ∷ xs) ys x (inl e) = inl e

@@ -114,13 +114,13 @@ both_equal Less o e = absurd (cc)
 both_equal Equal o e = (refl, e)
 both_equal Greater o e = absurd (cc)
 
-key_version : (a b : Key) → key_cmp a b ≡ Equal → a.gvsn ≡ b.gvsn
+pub key_version : (a b : Key) → key_cmp a b ≡ Equal → a.gvsn ≡ b.gvsn
 key_version a b e =
     let g = (both_equal _ _ (both_equal _ _ (both_equal (nat_cmp a.fence b.fence) _ e).1).1).1 in
     let parts = both_equal (nat_cmp a.gvsn.db b.gvsn.db) (nat_cmp a.gvsn.version b.gvsn.version) g in
     λ i. record { db = nat_cmp-IsAntisymmetric a.gvsn.db b.gvsn.db parts.0 i; version = nat_cmp-IsAntisymmetric a.gvsn.version b.gvsn.version parts.1 i }
 
-neither_lower : (a b : Key) → key_lt a b ≡ false → key_lt b a ≡ false → key_cmp a b ≡ Equal
+pub neither_lower : (a b : Key) → key_lt a b ≡ false → key_lt b a ≡ false → key_cmp a b ≡ Equal
 neither_lower a b p q = by (key_cmp a b) refl
   where
     by : (o : Ordering) → key_cmp a b ≡ o → o ≡ Equal

@@ -1,5 +1,5 @@
 -- The rows of the tree of records, and their order.
-use Rattle.std.specs.Prelude.{◌≡◌, ◌≢◌, ◌++◌, ℕ, true, false, List, [], ◌∷◌, if◌then◌else◌, length}
+use Rattle.std.specs.Prelude.{◌≡◌, ◌≢◌, ◌++◌, ℕ, true, false, List, [], ◌∷◌, Option, Some, None, if◌then◌else◌, length, slice_get}
 use Rattle.std.specs.Cmp.Lexicographic.{slice_cmp}
 use Rattle.std.specs.List.{AllByRecursion}
 use Rattle.std.specs.declared.cmp.Ordering.{Ordering}
@@ -47,6 +47,25 @@ pub record AreTreeRows (records : List Update) (rows : List TreeRow) : Type 0 wh
   pub each : (row : TreeRow) → In row rows → IsRow (Among records) row.path row.kind row.hash
   pub whole : (path : List (List ℕ)) (kind : Kind) (sum : Sum) → IsRow (Among records) path kind sum → In (record { path = path; kind = kind; hash = sum }) rows
 
--- the row of an update in a directory with this path
+-- the row of an update at a path
+abbrev pub row_at : List (List ℕ) → Update → TreeRow
+row_at path u = record { path = path; kind = kind_of u; hash = if is_directory u then no_sum else u.hash }
+
+-- and in a directory with this path
 abbrev pub row_in : List (List ℕ) → Update → TreeRow
-row_in above u = record { path = above ++ u.name ∷ []; kind = kind_of u; hash = if is_directory u then no_sum else u.hash }
+row_in above u = row_at (above ++ u.name ∷ []) u
+
+-- the path of a row that may be there
+abbrev pub path_of : Option TreeRow → List (List ℕ)
+path_of None = []
+path_of (Some row) = row.path
+
+-- the path of the directory at a place, where none is the root
+abbrev pub path_above : List TreeRow → Option ℕ → List (List ℕ)
+path_above rows None = []
+path_above rows (Some j) = path_of (slice_get rows j)
+
+-- of each found its row, in the directory that it is in
+pub record AreRowsOf (named : List Update) (queue : List ℕ) (above : List (Option ℕ)) (rows : List TreeRow) : Type 0 where
+  pub long : length rows ≡ length queue
+  pub each : (n k : ℕ) (u : Update) (up : Option ℕ) → slice_get queue n ≡ Some k → slice_get named k ≡ Some u → slice_get above n ≡ Some up → slice_get rows n ≡ Some (row_in (path_above rows up) u)

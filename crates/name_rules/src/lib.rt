@@ -11,6 +11,7 @@ mod laws;
 mod named;
 mod rows;
 mod step;
+mod trees;
 mod winner;
 
 pub use descent::shown;
@@ -22,4 +23,5 @@ pub use laws::{
 };
 pub use rows::{TreeRow, depth_order};
 pub use step::{Next, Step, Subject};
+pub use trees::tree;
 pub use winner::name_winner;
