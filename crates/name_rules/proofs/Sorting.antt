@@ -10,7 +10,7 @@ use Rattle.std.specs.Ordering.{ordering_reverse}
 use Rattle.frs_base.specs.Options.{In}
 use Rattle.name_rules.proofs.Lists.{in_at}
 
-is_equal : (o : Ordering) → is_eq o ≡ true → o ≡ Equal
+pub is_equal : (o : Ordering) → is_eq o ≡ true → o ≡ Equal
 is_equal Less e = absurd (cc)
 is_equal Equal e = refl
 is_equal Greater e = absurd (cc)
