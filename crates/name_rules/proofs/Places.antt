@@ -1,5 +1,5 @@
 -- The last of each place, of records by rank.
-use Rattle.std.proofs.Common.{◌≡◌, ◌+◌, ◌&&◌, Bool, true, false, inl, inr, suc, List, [], ◌∷◌, Ordering, Less, Equal, Greater, cond, get_or, is_lt, is_eq, map, nat_cmp, refl, sym, ap, ◌∙◌, subst, arith}
+use Rattle.std.proofs.Common.{◌≡◌, ◌&&◌, Bool, true, false, inl, inr, List, [], ◌∷◌, Ordering, Less, Equal, Greater, cond, is_lt, is_eq, map, nat_cmp, refl, sym, ap, ◌∙◌, subst}
 use Rattle.std.proofs.lemmas.Cmp.{alike_right, tied_back, tied_itself}
 use Rattle.std.specs.FinMap.{nat_cmp-IsAntisymmetric}
 use Rattle.std.specs.List.Sorted.{IsSortedBy}

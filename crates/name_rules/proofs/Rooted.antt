@@ -1,5 +1,5 @@
 -- Each record that is shown has one row.
-use Rattle.std.proofs.Common.{◌≡◌, ◌⊎◌, ◌∙◌, ◌++◌, ◌+◌, ◌<◌, ◌≤◌, ℕ, zero, suc, inl, inr, Bool, true, false, List, [], ◌∷◌, Option, Some, None, Equal, length, map, slice_get, refl, sym, ap, subst, arith}
+use Rattle.std.proofs.Common.{◌≡◌, ◌⊎◌, ◌∙◌, ◌++◌, ◌+◌, ◌<◌, ℕ, zero, suc, inl, inr, Bool, true, List, [], ◌∷◌, Option, Some, None, length, map, slice_get, refl, sym, ap, subst, arith}
 use Rattle.std.proofs.lemmas.List.{append_assoc, length-append}
 use Rattle.std.proofs.lemmas.List.Sorted.{Contains-permutation, IsPermutation-sym}
 use Rattle.std.proofs.lemmas.Option.{slice_get_within}
@@ -7,11 +7,9 @@ use Rattle.std.proofs.lemmas.Slice.Eq.{bytes_eq-Decides}
 use Rattle.std.specs.List.Sorted.{IsPermutation}
 use Rattle.frs_base.specs.Names.{fold_unit, matches}
 use Rattle.frs_base.specs.Options.{In}
-use Rattle.frs_base.specs.declared.kind.Kind.{Kind}
-use Rattle.frs_base.specs.declared.sum.Sum.{Sum}
 use Rattle.frs_base.specs.declared.version.Uid.{Uid}
 use Rattle.vol_state.specs.Conditions.{root_uid}
-use Rattle.win_order.specs.Order.{is_directory, key_lt, key_of}
+use Rattle.win_order.specs.Order.{is_directory, key_of}
 use Rattle.win_order.specs.declared.update.Update.{Update}
 use Rattle.name_rules.specs.declared.rows.TreeRow.{TreeRow}
 use Rattle.name_rules.specs.Tree.{HasName, IsRow, IsShown, IsUnder}

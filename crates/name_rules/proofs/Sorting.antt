@@ -1,6 +1,6 @@
 -- Lists in order, by a key of their items.
 use Rattle.std.proofs.Common.{◌≡◌, ◌∙◌, ◌+◌, ◌≤◌, ℕ, suc, inl, inr, Bool, true, false, cond, List, [], ◌∷◌, Ordering, Less, Equal, Greater, get_or, is_eq, is_lt, refl, sym, ap, subst, arith}
-use Rattle.std.proofs.lemmas.Cmp.{tied_back, tied_itself}
+use Rattle.std.proofs.lemmas.Cmp.{tied_itself}
 use Rattle.std.proofs.lemmas.List.Sorted.{ranks_by, sorted_far, sum_by-IsPermutation}
 use Rattle.std.proofs.lemmas.List.Sums.{sum_by-cons}
 use Rattle.std.specs.Cmp.{IsTotalOrder}
@@ -89,9 +89,9 @@ module _ {X K : Type 0} (key : X → K) (cmp : K → K → Ordering) (total : Is
       by : (o : Ordering) → cmp (key x) (key y) ≡ o → is_lt o ≡ true
       by Less e = refl
       by Equal e = absurd (
-        let n : has_key (key x) x ≡ 1 = ap (λ o. cond (is_eq o) 1 0) (tied_itself total (key x)) in
-        let other = one_has (key x) xs y h e in
-        let two = once (key x) in
-        let c = sum_by-cons (has_key (key x)) x xs in
-        omega arith)
+          let n : has_key (key x) x ≡ 1 = ap (λ o. cond (is_eq o) 1 0) (tied_itself total (key x)) in
+          let other = one_has (key x) xs y h e in
+          let two = once (key x) in
+          let c = sum_by-cons (has_key (key x)) x xs in
+          omega arith)
       by Greater e = absurd (let s : is_lt (cmp (key y) (key x)) ≡ true = ap is_lt (total.antisymm (key y) (key x) ∙ ap ordering_reverse e) in cc)

@@ -1,5 +1,5 @@
 -- The record that leads among those seen so far.
-use Rattle.std.proofs.Common.{◌≡◌, ◌∙◌, ◌++◌, ◌&&◌, ℕ, Bool, true, false, inl, inr, List, [], ◌∷◌, Option, Some, None, Ordering, Less, Equal, Greater, is_lt, bytes_eq, cond, map, option_map, refl, sym, ap, subst}
+use Rattle.std.proofs.Common.{◌≡◌, ◌∙◌, ◌++◌, ℕ, Bool, true, false, inl, inr, List, [], ◌∷◌, Option, Some, None, Ordering, Less, Equal, Greater, is_lt, bytes_eq, cond, map, option_map, refl, sym, ap, subst}
 use Rattle.std.proofs.lemmas.Slice.Eq.{bytes_eq-Decides}
 use Rattle.frs_base.specs.Names.{fold_unit, matches}
 use Rattle.frs_base.specs.Options.{In}

@@ -1,8 +1,10 @@
 //! What the records of a member say of its volume, and what its journal makes of them.
 //!
-//! The definitions stand here: what a journal record makes (`specs/Recorded.antt`), which records are
-//! shown, and trees (`specs/Tree.antt`), and the installer's next step (`specs/Next.antt`); with laws
-//! that they keep. [`shown`] finds which records are shown, and [`Step`] is a step of the installer.
+//! The definitions stand here: what a journal record makes (`specs/Recorded.antt`), which records
+//! are shown, and trees (`specs/Tree.antt`), and the installer's next step (`specs/Next.antt`); with
+//! laws that they keep. [`shown`] finds which records are shown, [`tree`] their tree, whose rows
+//! [`depth_order`] puts in order, and [`name_winner`] the one that has a name. [`Step`] is a step of
+//! the installer.
 #![tactic(auto)]
 
 mod descent;

@@ -61,11 +61,7 @@ fn path_above(rows: &[TreeRow], above: Option<usize>) -> &[Name]
 }
 
 /// The rows of those that were found, in the order in which they were.
-fn rows_of(
-    alloc: Global,
-    named: &[&Update],
-    reached: &Reached,
-) -> Result<Vec<TreeRow>, AllocError>
+fn rows_of(alloc: Global, named: &[&Update], reached: &Reached) -> Result<Vec<TreeRow>, AllocError>
     requires { Descends (map (λ u. u.now) named.now) reached.now.flags.items reached.now.queue.items reached.now.above.items }
     ensures { IfOk result (λ rows. AreRowsOf (map (λ u. u.now) named.now) reached.now.queue.items reached.now.above.items rows.items) }
 {

@@ -22,7 +22,8 @@ fn row(alloc: Global, first: &[u16], second: &[u16]) -> Result<TreeRow, Fail> {
 #[test]
 fn rows_by_depth(rt: HostRuntime) -> Result<(), Fail> {
     let alloc = rt.alloc();
-    // shorter paths first; then unit by unit, by number and not by case, and a name before a longer one
+    // shorter paths first; then names unit by unit, by number and not by case, and a name before
+    // a longer one that it begins
     let mut rows = [
         row(alloc, &[0x61], &[0x62, 0x61])?,
         row(alloc, &[0x62], &[0x61])?,

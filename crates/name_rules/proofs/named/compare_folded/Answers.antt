@@ -1,4 +1,4 @@
-use Rattle.std.proofs.Common.{◌∙◌, length, map, nat_cmp, sym, arith}
+use Rattle.std.proofs.Common.{◌∙◌, map, nat_cmp, sym, arith}
 use Rattle.std.proofs.lemmas.List.{drop-map, length-map}
 use Rattle.std.specs.Cmp.Lexicographic.{slice_cmp}
 use Rattle.frs_base.specs.Names.{fold_unit}
