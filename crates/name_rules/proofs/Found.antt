@@ -1,22 +1,20 @@
 -- The files of those found, in order.
-use Rattle.std.proofs.Common.{◌≡◌, ◌∙◌, ◌++◌, ◌+◌, ◌≤◌, ℕ, zero, suc, inl, inr, Bool, true, false, cond, List, [], ◌∷◌, Option, Some, None, get_or, is_lt, option_map, slice_get, take, unwrap_or, refl, sym, ap, subst, arith}
+use Rattle.std.proofs.Common.{◌≡◌, ◌∙◌, ◌++◌, ◌+◌, ℕ, zero, suc, inl, inr, Bool, true, false, List, [], ◌∷◌, Option, Some, None, Equal, is_eq, is_lt, option_map, slice_get, take, unwrap_or, refl, sym, ap, subst, arith}
 use Rattle.std.proofs.lemmas.Cmp.{tied_itself}
-use Rattle.std.proofs.lemmas.List.Sorted.{Contains-permutation, IsPermutation-sym, ranks_by, sorted_far, sum_by-IsPermutation}
-use Rattle.std.proofs.lemmas.List.Sums.{sum_by-cons}
+use Rattle.std.proofs.lemmas.List.Sorted.{Contains-permutation, IsPermutation-sym}
 use Rattle.std.proofs.lemmas.List.Elements.{filter_map-append}
-use Rattle.std.specs.List.{AllByRecursion, cons_option, filter_map, sum_by}
+use Rattle.std.specs.List.{AllByRecursion, cons_option, filter_map}
 use Rattle.std.specs.List.Sorted.{IsPermutation, IsSortedBy}
 use Rattle.frs_base.specs.Options.{In}
-use Rattle.frs_base.specs.Versions.{same_uid, uid_lt}
+use Rattle.frs_base.specs.Versions.{uid_lt}
 use Rattle.frs_base.specs.declared.version.Uid.{Uid}
-use Rattle.vol_state.proofs.Volumes.{is_same}
 use Rattle.vol_state.proofs.Walks.{same_is}
 use Rattle.win_order.specs.declared.update.Update.{Update}
 use Rattle.name_rules.specs.Shown.{AreApart, AreByPlace, AreByUid, AreDistinct, AreNamed, AreShown, Descends, place_cmp, uid_cmp}
-use Rattle.name_rules.proofs.Lists.{all_in, contains_in, got_in, in_all, in_at, in_contains}
-use Rattle.name_rules.proofs.Ranks.{place_total, uid_lt_is, uid_total}
-use Rattle.name_rules.proofs.Children.{neither}
+use Rattle.name_rules.proofs.Lists.{all_in, contains_in, got_in, in_all, in_contains}
+use Rattle.name_rules.proofs.Ranks.{place_total, same_uid_is, uid_lt_is, uid_total}
 use Rattle.name_rules.proofs.Descending.{finds}
+use Rattle.name_rules.proofs.Sorting.{HaveKeysOnce, HaveOtherKeys, is_higher, moved_once, none_lower, once_rest, sorted_rest}
 
 -- the file of the one at a place
 abbrev pub file_at : List Update → ℕ → Option Uid
@@ -69,50 +67,26 @@ place_of named (k ∷ ks) uid h = by (slice_get named k) refl h (place_of named 
 
 -- ---- each once
 
--- 1 for this file
-abbrev is_this : Uid → Uid → ℕ
-is_this uid v = cond (same_uid uid v) 1 0
-
-none_this : (uid : Uid) (uids : List Uid) → ((v : Uid) → In v uids → uid ≡ v → ⊥) → sum_by (is_this uid) uids ≡ 0
-none_this uid [] none = refl
-none_this uid (v ∷ vs) none = by (same_uid uid v) refl (none_this uid vs (λ w h. none w (inr h)))
-  where
-    by : (b : Bool) → same_uid uid v ≡ b → sum_by (is_this uid) vs ≡ 0 → sum_by (is_this uid) (v ∷ vs) ≡ 0
-    by true e more = absurd (none v (inl refl) (same_is uid v e))
-    by false e more = let k : is_this uid v ≡ 0 = ap (λ t. cond t 1 0) e in let s = sum_by-cons (is_this uid) v vs in omega arith
-
-one_this : (uid : Uid) (uids : List Uid) → In uid uids → 1 ≤ sum_by (is_this uid) uids
-one_this uid [] h = absurd h
-one_this uid (v ∷ vs) (inl e) =
-    let k : is_this uid v ≡ 1 = ap (λ t. cond t 1 0) (subst (λ w. same_uid uid w ≡ true) e (is_same uid)) in
-    let s = sum_by-cons (is_this uid) v vs in
-    omega arith
-one_this uid (v ∷ vs) (inr h) = let more = one_this uid vs h in let s = sum_by-cons (is_this uid) v vs in omega arith
-
 -- no two places have one file
 abbrev pub AreOneEach : List Update → Type 0
 AreOneEach named = (j k : ℕ) (u v : Update) → slice_get named j ≡ Some u → slice_get named k ≡ Some v → u.uid ≡ v.uid → j ≡ k
 
-at_most_once : (named : List Update) → AreOneEach named → (ks : List ℕ) → AreApart ks → (uid : Uid) → sum_by (is_this uid) (uids_at named ks) ≤ 1
-at_most_once named one [] apart uid = omega arith
-at_most_once named one (k ∷ ks) apart uid = by (slice_get named k) refl (at_most_once named one ks apart.1 uid)
+uid_tied : (a b : Uid) → uid_cmp a b ≡ Equal → a ≡ b
+uid_tied a b e = same_is a b (same_uid_is a b ∙ ap is_eq e)
+
+other_files : (named : List Update) → AreOneEach named → (ks : List ℕ) → AreApart ks → HaveOtherKeys (λ uid. uid) uid_cmp uid_total (uids_at named ks)
+other_files named one [] apart = tt
+other_files named one (k ∷ ks) apart = by (slice_get named k) refl (other_files named one ks apart.1)
   where
-    by : (o : Option Update) → slice_get named k ≡ o → sum_by (is_this uid) (uids_at named ks) ≤ 1 → sum_by (is_this uid) (cons_option (option_map (λ u. u.uid) o) (uids_at named ks)) ≤ 1
+    by : (o : Option Update) → slice_get named k ≡ o → HaveOtherKeys (λ uid. uid) uid_cmp uid_total (uids_at named ks)
+        → HaveOtherKeys (λ uid. uid) uid_cmp uid_total (cons_option (option_map (λ u. u.uid) o) (uids_at named ks))
     by None e more = more
-    by (Some u) e more = this (same_uid uid u.uid) refl
-      where
-        this : (b : Bool) → same_uid uid u.uid ≡ b → sum_by (is_this uid) (u.uid ∷ uids_at named ks) ≤ 1
-        this true t =
-            let x : is_this uid u.uid ≡ 1 = ap (λ t. cond t 1 0) t in
-            let s = sum_by-cons (is_this uid) u.uid (uids_at named ks) in
-            let n = none_this uid (uids_at named ks) (λ v h same.
-            let p = place_of named ks v h in
-            apart.0 (subst (λ j. In j ks) (sym (one k p.place u p.update e p.at (sym (same_is uid u.uid t) ∙ same ∙ p.is))) p.there)) in
-            omega arith
-        this false t =
-            let x : is_this uid u.uid ≡ 0 = ap (λ t. cond t 1 0) t in
-            let s = sum_by-cons (is_this uid) u.uid (uids_at named ks) in
-            omega arith
+    by (Some u) e more = (
+      λ v h same.
+          let p = place_of named ks v h in
+          apart.0 (subst (λ j. In j ks) (sym (one k p.place u p.update e p.at (uid_tied u.uid v same ∙ p.is))) p.there),
+      more,
+    )
 
 -- ---- those by place
 
@@ -123,7 +97,7 @@ twice x u xs all h e =
     let both : true ≡ false = sym low ∙ level in
     cc
 
-once_placed : (us : List Update) → AreByPlace us → (j k : ℕ) (u : Update) → slice_get us j ≡ Some u → slice_get us k ≡ Some u → j ≡ k
+pub once_placed : (us : List Update) → AreByPlace us → (j k : ℕ) (u : Update) → slice_get us j ≡ Some u → slice_get us k ≡ Some u → j ≡ k
 once_placed [] o j k u p q = absurd (cc)
 once_placed (x ∷ xs) o zero zero u p q = refl
 once_placed (x ∷ xs) o zero (suc k) u p q = absurd (twice x u xs o.0 (got_in xs k u q) (ap (λ o. unwrap_or o x) p))
@@ -137,42 +111,23 @@ one_each records named distinct names j k u v p q e =
 
 -- ---- after a sort
 
-sorted_once : (uids : List Uid) → IsSortedBy (λ u v. is_lt (uid_cmp u v)) uids → ((uid : Uid) → sum_by (is_this uid) uids ≤ 1) → AreByUid uids
-sorted_once [] up each = tt
-sorted_once (x ∷ xs) up each = (all_in (λ v. uid_lt x v ≡ true) xs above, sorted_once xs tail fewer)
-  where
-    tail : IsSortedBy (λ u v. is_lt (uid_cmp u v)) xs
-    tail k d low l =
-        let next : suc k + 1 ≡ suc (k + 1) = omega arith in
-        subst (λ n. is_lt (uid_cmp (get_or (x ∷ xs) n d) (get_or xs k d)) ≡ false) next (up (suc k) d (omega arith) (omega arith))
+sorted_once : (uids : List Uid) → IsSortedBy (λ u v. is_lt (uid_cmp u v)) uids → HaveKeysOnce (λ uid. uid) uid_cmp uid_total uids → AreByUid uids
+sorted_once [] up once = tt
+sorted_once (x ∷ xs) up once = (
+  all_in (λ v. uid_lt x v ≡ true) xs (λ v h.
+      uid_lt_is x v ∙ is_higher (λ uid. uid) uid_cmp uid_total x xs once v h (none_lower (λ uid. uid) uid_cmp uid_total x xs up v h)),
+  sorted_once xs (sorted_rest (λ uid. uid) uid_cmp uid_total x xs up) (once_rest (λ uid. uid) uid_cmp uid_total x xs once),
+)
 
-    fewer : (uid : Uid) → sum_by (is_this uid) xs ≤ 1
-    fewer uid = let e = each uid in let s = sum_by-cons (is_this uid) x xs in omega arith
-
-    above : (v : Uid) → In v xs → uid_lt x v ≡ true
-    above v h =
-        let (k, l, e) = in_at xs v x h in
-        let far : is_lt (uid_cmp v x) ≡ false = subst (λ w. is_lt (uid_cmp w x) ≡ false) e (sorted_far (λ u w. is_lt (uid_cmp u w)) (ranks_by uid_total (λ (u : Uid). u)) (x ∷ xs) up 0 (suc k) x (omega arith) (omega arith)) in
-        by (uid_lt x v) refl (uid_lt_is v x ∙ far)
-      where
-        by : (b : Bool) → uid_lt x v ≡ b → uid_lt v x ≡ false → b ≡ true
-        by true e low = refl
-        by false e low =
-            let mine : is_this x x ≡ 1 = ap (λ t. cond t 1 0) (is_same x) in
-            let other = one_this x xs (subst (λ w. In w xs) (sym (same_is x v (neither x v e low))) h) in
-            let two = each x in
-            let s = sum_by-cons (is_this x) x xs in
-            absurd (omega arith)
-
-pub are_shown : (records named : List Update) (flags : List Bool) (queue : List ℕ) (uids : List Uid) → AreDistinct records → AreNamed records named → Descends named flags queue
+pub are_shown : (records named : List Update) (flags : List Bool) (queue : List ℕ) (above : List (Option ℕ)) (uids : List Uid) → AreDistinct records → AreNamed records named → Descends named flags queue above
     → IsPermutation (uids_at named queue) uids → IsSortedBy (λ u v. is_lt (uid_cmp u v)) uids → AreShown records uids
-are_shown records named flags queue uids distinct names d moved up = record {
-  ordered = sorted_once uids up (λ uid. subst (λ n. n ≤ 1) (sym (sum_by-IsPermutation (is_this uid) found uids moved)) (at_most_once named (one_each records named distinct names) queue d.flagged.apart uid));
+are_shown records named flags queue above uids distinct names d moved up = record {
+  ordered = sorted_once uids up (moved_once (λ uid. uid) uid_cmp uid_total found uids (other_files named (one_each records named distinct names) queue d.flagged.apart) moved);
   each = λ uid h.
       let p = place_of named queue uid (contains_in found uid (Contains-permutation uids found uid (IsPermutation-sym found uids moved) (in_contains uids uid h))) in
       (p.update, d.shown records names.each p.place p.update p.there p.at, sym p.is);
   whole = λ u shown.
-      let (k, there, at) = finds records named flags queue names d u shown in
+      let (k, there, at) = finds records named flags queue above names d u shown in
       contains_in uids u.uid (Contains-permutation found uids u.uid moved (in_contains found u.uid (file_of named queue k u there at)));
 }
   where

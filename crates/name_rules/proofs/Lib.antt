@@ -10,3 +10,7 @@ pub mod Children
 pub mod Flags
 pub mod Descending
 pub mod Found
+pub mod Winning
+pub mod Sorting
+pub mod Deepening
+pub mod Rooted

@@ -1,5 +1,7 @@
 -- Members of lists.
-use Rattle.std.proofs.Common.{◌≡◌, ◌⊎◌, ◌++◌, ◌<◌, ℕ, zero, suc, inl, inr, Bool, true, false, cond, List, [], ◌∷◌, Some, length, map, slice_get, get_or, unwrap_or, refl, sym, ap, ◌∙◌, subst, arith}
+use Rattle.std.proofs.Common.{◌≡◌, ◌⊎◌, ◌++◌, ◌+◌, ◌<◌, ◌≤◌, ℕ, zero, suc, inl, inr, Bool, true, false, cond, List, [], ◌∷◌, Some, length, map, slice_get, take, drop, Ordering, Less, Greater, get_or, unwrap_or, refl, sym, ap, ◌∙◌, subst, arith}
+use Rattle.std.proofs.Math.Seq.{drop-nil, take-suc}
+use Rattle.std.specs.Cmp.Lexicographic.{slice_cmp}
 use Rattle.std.specs.List.{AllByRecursion, Contains, filter}
 use Rattle.frs_base.specs.Options.{In}
 
@@ -76,6 +78,11 @@ in_got [] x h = absurd h
 in_got (z ∷ xs) x (inl e) = (0, ap Some (sym e))
 in_got (z ∷ xs) x (inr h) = let (k, e) = in_got xs x h in (suc k, e)
 
+pub some_at : {X : Type 0} (xs : List X) (k : ℕ) → k < length xs → (x : X) × (slice_get xs k ≡ Some x)
+some_at [] k l = absurd (omega arith)
+some_at (z ∷ xs) zero l = (z, refl)
+some_at (z ∷ xs) (suc k) l = some_at xs k (omega arith)
+
 pub in_front : {X : Type 0} (xs ys : List X) (x : X) → In x xs → In x (xs ++ ys)
 in_front [] ys x h = absurd h
 in_front (z ∷ xs) ys x (inl e) = inl e
@@ -89,3 +96,27 @@ pub in_either : {X : Type 0} (xs ys : List X) (x : X) → In x (xs ++ ys) → In
 in_either [] ys x h = inr h
 in_either (z ∷ xs) ys x (inl e) = inl (inl e)
 in_either (z ∷ xs) ys x (inr h) = elim (in_either xs ys x h) [ inl k ↦ inl (inr k) | inr k ↦ inr k ]
+
+-- ---- from the front
+
+-- one more from the front
+pub take_next : {X : Type 0} (xs : List X) (i : ℕ) (x : X) → i < length xs → x ≡ get_or xs i x → take (i + 1) xs ≡ take i xs ++ x ∷ []
+take_next xs i x l is =
+    let next : i + 1 ≡ suc i = omega arith in
+    ap (λ n. take n xs) next ∙ take-suc xs i x l ∙ ap (λ y. take i xs ++ y ∷ []) (sym is)
+
+-- ---- where one ends before the other
+
+pub less_past : {X : Type 0} (cmp : X → X → Ordering) (xs ys : List X) (i : ℕ) → length xs ≤ i → i < length ys → slice_cmp cmp (drop i xs) (drop i ys) ≡ Less
+less_past cmp xs [] i past l = absurd (omega arith)
+less_past cmp [] (y ∷ ys) zero past l = refl
+less_past cmp [] (y ∷ ys) (suc i) past l = ap (λ l. slice_cmp cmp l (drop i ys)) (drop-nil (suc i) ∙ sym (drop-nil i)) ∙ less_past cmp [] ys i (omega arith) (omega arith)
+less_past cmp (x ∷ xs) (y ∷ ys) zero past l = absurd (omega arith)
+less_past cmp (x ∷ xs) (y ∷ ys) (suc i) past l = less_past cmp xs ys i (omega arith) (omega arith)
+
+pub greater_past : {X : Type 0} (cmp : X → X → Ordering) (xs ys : List X) (i : ℕ) → i < length xs → length ys ≤ i → slice_cmp cmp (drop i xs) (drop i ys) ≡ Greater
+greater_past cmp [] ys i l past = absurd (omega arith)
+greater_past cmp (x ∷ xs) [] zero l past = refl
+greater_past cmp (x ∷ xs) [] (suc i) l past = ap (slice_cmp cmp (drop i xs)) (drop-nil (suc i) ∙ sym (drop-nil i)) ∙ greater_past cmp xs [] i (omega arith) (omega arith)
+greater_past cmp (x ∷ xs) (y ∷ ys) zero l past = absurd (omega arith)
+greater_past cmp (x ∷ xs) (y ∷ ys) (suc i) l past = greater_past cmp xs ys i (omega arith) (omega arith)

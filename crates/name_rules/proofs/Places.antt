@@ -1,7 +1,6 @@
 -- The last of each place, of records by rank.
-use Rattle.std.proofs.Common.{◌≡◌, ◌+◌, ◌&&◌, Bool, true, false, inl, inr, suc, List, [], ◌∷◌, Ordering, Less, Equal, Greater, cond, get_or, is_lt, is_eq, map, nat_cmp, refl, sym, ap, ◌∙◌, subst, arith}
+use Rattle.std.proofs.Common.{◌≡◌, ◌&&◌, Bool, true, false, inl, inr, List, [], ◌∷◌, Ordering, Less, Equal, Greater, cond, is_lt, is_eq, map, nat_cmp, refl, sym, ap, ◌∙◌, subst}
 use Rattle.std.proofs.lemmas.Cmp.{alike_right, tied_back, tied_itself}
-use Rattle.std.proofs.lemmas.List.Sorted.{ranks_by, sorted_far}
 use Rattle.std.specs.FinMap.{nat_cmp-IsAntisymmetric}
 use Rattle.std.specs.List.Sorted.{IsSortedBy}
 use Rattle.std.specs.Ordering.{ordering_reverse, ordering_then}
@@ -13,8 +12,9 @@ use Rattle.win_order.specs.declared.update.Update.{Update}
 use Rattle.vol_state.proofs.Volumes.{is_same}
 use Rattle.vol_state.proofs.Walks.{same_is}
 use Rattle.name_rules.specs.Shown.{AreByPlace, AreDistinct, AreNamed, AreRising, IsRanked, key_cmp, last_of_places, place_cmp, rank_cmp, same_place}
-use Rattle.name_rules.proofs.Lists.{all_in, in_at, in_mapped}
+use Rattle.name_rules.proofs.Lists.{all_in, in_mapped}
 use Rattle.name_rules.proofs.Ranks.{by_key, key_lt_is, key_total, place_first, place_total, rank_total, same_place_is}
+use Rattle.name_rules.proofs.Sorting.{is_equal, none_lower, sorted_rest}
 
 -- of two updates, which one a sort puts first
 abbrev pub rank_lt : Update → Update → Bool
@@ -23,31 +23,20 @@ rank_lt u v = is_lt (rank_cmp u v)
 -- what is sorted by what it stands for
 pub rising : {X : Type 0} (f : X → Update) (xs : List X) → IsSortedBy (λ x y. rank_lt (f x) (f y)) xs → AreRising (map f xs)
 rising f [] up = tt
-rising {X} f (x ∷ xs) up = (below, rising f xs tail)
+rising {X} f (x ∷ xs) up = (below, rising f xs (sorted_rest f rank_cmp rank_total x xs up))
   where
     below : (v : Update) → In v (map f xs) → rank_lt v (f x) ≡ false
     below v h =
         let (y, there, e) = in_mapped f xs v h in
-        let (k, l, at) = in_at xs y x there in
-        subst (λ w. rank_lt w (f x) ≡ false) (sym e) (subst (λ w. rank_lt (f w) (f x) ≡ false) at (sorted_far (λ a b. rank_lt (f a) (f b)) (ranks_by rank_total f) (x ∷ xs) up 0 (suc k) x (omega arith) (omega arith)))
-
-    tail : IsSortedBy (λ a b. rank_lt (f a) (f b)) xs
-    tail k d low l =
-        let next : suc k + 1 ≡ suc (k + 1) = omega arith in
-        subst (λ n. rank_lt (f (get_or (x ∷ xs) n d)) (f (get_or xs k d)) ≡ false) next (up (suc k) d (omega arith) (omega arith))
+        subst (λ w. rank_lt w (f x) ≡ false) (sym e) (none_lower f rank_cmp rank_total x xs up y there)
 
 -- ---- comparisons
-
-is_equal : (o : Ordering) → is_eq o ≡ true → o ≡ Equal
-is_equal Less e = absurd (cc)
-is_equal Equal e = refl
-is_equal Greater e = absurd (cc)
 
 ties_turn : (u v : Update) → same_place u v ≡ true → same_place v u ≡ true
 ties_turn u v e =
     same_place_is v u ∙ ap is_eq (tied_back place_total u v (is_equal (place_cmp u v) (sym (same_place_is u v) ∙ e)))
 
-not_below_itself : (u : Update) → key_lt (key_of u) (key_of u) ≡ false
+pub not_below_itself : (u : Update) → key_lt (key_of u) (key_of u) ≡ false
 not_below_itself u = key_lt_is (key_of u) (key_of u) ∙ ap is_lt (tied_itself key_total (key_of u))
 
 rank_itself : (u : Update) → rank_lt u u ≡ false
@@ -114,13 +103,13 @@ both_equal Less o e = absurd (cc)
 both_equal Equal o e = (refl, e)
 both_equal Greater o e = absurd (cc)
 
-key_version : (a b : Key) → key_cmp a b ≡ Equal → a.gvsn ≡ b.gvsn
+pub key_version : (a b : Key) → key_cmp a b ≡ Equal → a.gvsn ≡ b.gvsn
 key_version a b e =
     let g = (both_equal _ _ (both_equal _ _ (both_equal (nat_cmp a.fence b.fence) _ e).1).1).1 in
     let parts = both_equal (nat_cmp a.gvsn.db b.gvsn.db) (nat_cmp a.gvsn.version b.gvsn.version) g in
     λ i. record { db = nat_cmp-IsAntisymmetric a.gvsn.db b.gvsn.db parts.0 i; version = nat_cmp-IsAntisymmetric a.gvsn.version b.gvsn.version parts.1 i }
 
-neither_lower : (a b : Key) → key_lt a b ≡ false → key_lt b a ≡ false → key_cmp a b ≡ Equal
+pub neither_lower : (a b : Key) → key_lt a b ≡ false → key_lt b a ≡ false → key_cmp a b ≡ Equal
 neither_lower a b p q = by (key_cmp a b) refl
   where
     by : (o : Ordering) → key_cmp a b ≡ o → o ≡ Equal
@@ -186,15 +175,15 @@ last_by_place (x ∷ y ∷ us) r = by (same_place x y) refl (last_by_place (y �
 
 -- ---- together
 
-and_left : (a b : Bool) → (a && b) ≡ true → a ≡ true
+pub and_left : (a b : Bool) → (a && b) ≡ true → a ≡ true
 and_left true b e = refl
 and_left false b e = absurd (cc)
 
-and_right : (a b : Bool) → (a && b) ≡ true → b ≡ true
+pub and_right : (a b : Bool) → (a && b) ≡ true → b ≡ true
 and_right true b e = e
 and_right false b e = absurd (cc)
 
-both : (a b : Bool) → a ≡ true → b ≡ true → (a && b) ≡ true
+pub both : (a b : Bool) → a ≡ true → b ≡ true → (a && b) ≡ true
 both a b p q = λ i. (ap (λ x. x && b) p ∙ q) i
 
 pub are_named : (records ranked : List Update) → AreDistinct records → IsRanked records ranked → AreNamed records (last_of_places ranked)

@@ -5,7 +5,7 @@ use Rattle.frs_base.specs.declared.sum.Sum.{Sum}
 use Rattle.frs_base.specs.declared.version.Uid.{Uid}
 use Rattle.win_order.specs.declared.update.Update.{Update}
 use Rattle.vol_state.specs.Conditions.{root_uid}
-use Rattle.name_rules.specs.Tree.{IsRow, IsShown, IsUnder, ShownBy}
+use Rattle.name_rules.specs.Tree.{HasName, IsRow, IsShown, IsUnder, ShownBy}
 
 -- each of the one is of the other
 pub record AreSame (R S : Update → Type 0) : Type 0 where
@@ -32,6 +32,11 @@ under_same same (name ∷ next ∷ path) parent u (up, shown, p, n, d, h) = (up,
 
 pub row_same : {R S : Update → Type 0} → AreSame R S → (path : List (List ℕ)) (kind : Kind) (sum : Sum) → IsRow R path kind sum → IsRow S path kind sum
 row_same same path kind sum (u, under, k, s) = (u, under_same same path root_uid u under, k, s)
+
+-- what is shown has its name
+pub shown_name : (R : Update → Type 0) (u : Update) → IsShown R u → HasName R u
+shown_name R u (zero, h) = absurd h
+shown_name R u (suc n, h) = h.0
 
 -- what is shown is one of the records
 pub shown_record : (R : Update → Type 0) (u : Update) → IsShown R u → R u

@@ -4,3 +4,5 @@ pub mod Next
 pub mod Examples
 pub mod Shown
 pub mod Steps
+pub mod Winner
+pub mod Rows

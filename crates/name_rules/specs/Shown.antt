@@ -1,5 +1,5 @@
 -- What the lists of those that have names, and of those that are shown, are.
-use Rattle.std.specs.Prelude.{◌≡◌, ◌⊎◌, ◌≤◌, ◌<◌, ◌+◌, ◌++◌, ◌&&◌, ℕ, suc, Bool, true, false, List, [], ◌∷◌, Some, if◌then◌else◌, length, map, slice_get}
+use Rattle.std.specs.Prelude.{◌≡◌, ◌⊎◌, ◌≤◌, ◌<◌, ◌+◌, ◌++◌, ◌&&◌, ℕ, suc, Bool, true, false, List, [], ◌∷◌, Option, Some, None, if◌then◌else◌, length, map, replicate, slice_get}
 use Rattle.std.specs.Cmp.Lexicographic.{slice_cmp}
 use Rattle.std.specs.List.{AllByRecursion, slice_set}
 use Rattle.std.specs.declared.cmp.Ordering.{Ordering}
@@ -127,12 +127,30 @@ pub record Reaches (named : List Update) (parent : Uid) (flags : List Bool) (que
   pub each : (k : ℕ) (u : Update) → In k added → slice_get named k ≡ Some u → u.parent ≡ parent
   pub stay : (k : ℕ) → slice_get flags k ≡ Some true → slice_get flags' k ≡ Some true
 
+-- as many were found in one directory as got its place
+pub record HangsMore (up : Option ℕ) (queue : List ℕ) (above : List (Option ℕ)) (queue' : List ℕ) (above' : List (Option ℕ)) : Type 0 where
+  pub count : ℕ
+  pub longer : length queue' ≡ length queue + count
+  pub behind : above' ≡ above ++ replicate count up
+
+-- no place stands for the root; a place before the n-th of the queue stands for the directory that was found there
+abbrev pub StandsFor : List Update → List ℕ → ℕ → Option ℕ → Uid → Type 0
+StandsFor named queue n None parent = parent ≡ root_uid
+StandsFor named queue n (Some j) parent =
+    (k : ℕ) × (d : Update) × (j < n) × (slice_get queue j ≡ Some k) × (slice_get named k ≡ Some d) × (is_directory d ≡ true) × (d.uid ≡ parent)
+
+-- of each found the place of the directory that it is in
+pub record AreHung (named : List Update) (queue : List ℕ) (above : List (Option ℕ)) : Type 0 where
+  pub long : length above ≡ length queue
+  pub each : (n k : ℕ) (u : Update) (up : Option ℕ) → slice_get queue n ≡ Some k → slice_get named k ≡ Some u → slice_get above n ≡ Some up → StandsFor named queue n up u.parent
+
 -- those found are those in the root, and those in a directory that was found
-pub record Descends (named : List Update) (flags : List Bool) (queue : List ℕ) : Type 0 where
+pub record Descends (named : List Update) (flags : List Bool) (queue : List ℕ) (above : List (Option ℕ)) : Type 0 where
   pub flagged : AreFlagged (length named) flags queue
   pub roots : HasChildren named root_uid flags
   pub below : (k : ℕ) (u : Update) → In k queue → slice_get named k ≡ Some u → is_directory u ≡ true → HasChildren named u.uid flags
   pub shown : (records : List Update) → ((u : Update) → In u named → HasName (Among records) u) → (k : ℕ) (u : Update) → In k queue → slice_get named k ≡ Some u → IsShown (Among records) u
+  pub hung : AreHung named queue above
 
 -- in order
 abbrev pub AreByUid : List Uid → Type 0

@@ -1,7 +1,7 @@
 // Which records are shown: from the root down.
 ghost use Rattle.std.specs.Prelude.{◌≡◌, ◌<◌, IfOk, OnOk, length, map};
 ghost use Rattle.vol_state.specs.Conditions.{root_uid};
-ghost use Rattle.name_rules.specs.Shown.{AreByPlace, AreChildren, AreDistinct, AreFlagged, AreNamed, AreShown, Descends, Finds, HasChildren, Reaches};
+ghost use Rattle.name_rules.specs.Shown.{AreByPlace, AreChildren, AreDistinct, AreFlagged, AreNamed, AreShown, Descends, Finds, HangsMore, HasChildren, Reaches};
 
 use crate::named::named;
 use frs_base::{Uid, content_set};
@@ -30,70 +30,85 @@ fn children(named: &[&Update], parent: Uid) -> (usize, usize)
 
 /// Which of those that have their names are shown, as far as they were found.
 #[derive(Drop)]
-struct Reached {
+pub(crate) struct Reached {
     /// Whether it was found, of each.
     flags: Vec<bool>,
     /// The places of those that were found.
-    queue: Vec<usize>,
+    pub(crate) queue: Vec<usize>,
+    /// Of each of these the directory that it is in, as its place in the queue; none for the root.
+    pub(crate) above: Vec<Option<usize>>,
 }
 
 impl Reached {
     /// None of so many.
     fn none(alloc: Global, count: usize) -> Result<Reached, AllocError>
         ensures flagged { IfOk result (λ reached. AreFlagged count reached.flags.items reached.queue.items) }
-        ensures none { IfOk result (λ reached. length reached.queue.items ≡ 0) }
+        ensures none { IfOk result (λ reached. (length reached.queue.items ≡ 0) × (length reached.above.items ≡ 0)) }
     {
         let mut flags = Vec::new(alloc);
         for _place in 0..count {
             flags.push(false)?;
         }
         let queue = Vec::new(alloc);
-        Ok(Reached { flags, queue })
+        let above = Vec::new(alloc);
+        Ok(Reached {
+            flags,
+            queue,
+            above,
+        })
     }
 
-    /// Finds one, if it wasn't found before.
-    fn find(&mut self, at: usize) -> Result<(), AllocError>
+    /// Finds one in this directory, if it wasn't found before.
+    fn find(&mut self, at: usize, above: Option<usize>) -> Result<(), AllocError>
         requires { at < length self.old.flags.items }
-        ensures { OnOk result (Finds at self.old.flags.items self.old.queue.items self.new.flags.items self.new.queue.items) }
+        ensures found { OnOk result (Finds at self.old.flags.items self.old.queue.items self.new.flags.items self.new.queue.items) }
+        ensures above { OnOk result (HangsMore above self.old.queue.items self.old.above.items self.new.queue.items self.new.above.items) }
     {
         if !self.flags[at] {
             self.queue.push(at)?;
+            self.above.push(above)?;
             self.flags[at] = true;
         }
         Ok(())
     }
 
-    /// Finds those that are in a directory.
-    fn reach(&mut self, named: &[&Update], parent: Uid) -> Result<(), AllocError>
+    /// Finds those that are in a directory, which has this place in the queue.
+    fn reach(
+        &mut self,
+        named: &[&Update],
+        parent: Uid,
+        above: Option<usize>,
+    ) -> Result<(), AllocError>
         requires ordered { AreByPlace (map (λ u. u.now) named.now) }
         requires flagged { AreFlagged (length named.now) self.old.flags.items self.old.queue.items }
         ensures flagged { OnOk result (AreFlagged (length named.now) self.new.flags.items self.new.queue.items) }
         ensures children { OnOk result (HasChildren (map (λ u. u.now) named.now) parent self.new.flags.items) }
         ensures more { OnOk result (Reaches (map (λ u. u.now) named.now) parent
             self.old.flags.items self.old.queue.items self.new.flags.items self.new.queue.items) }
+        ensures above { OnOk result (HangsMore above self.old.queue.items self.old.above.items self.new.queue.items self.new.above.items) }
     {
         let (first, last) = children(named, parent);
         for at in first..last {
-            self.find(at)?;
+            self.find(at, above)?;
         }
         Ok(())
     }
 }
 
 /// What is reached from the root, of those that have their names.
-fn descend(alloc: Global, named: &[&Update]) -> Result<Reached, AllocError>
+pub(crate) fn descend(alloc: Global, named: &[&Update]) -> Result<Reached, AllocError>
     requires { AreByPlace (map (λ u. u.now) named.now) }
-    ensures { IfOk result (λ reached. Descends (map (λ u. u.now) named.now) reached.flags.items reached.queue.items) }
+    ensures { IfOk result (λ reached. Descends (map (λ u. u.now) named.now) reached.flags.items reached.queue.items reached.above.items) }
 {
     let mut reached = Reached::none(alloc, named.len())?;
-    reached.reach(named, root_uid())?;
+    reached.reach(named, root_uid(), None)?;
     for next in 0..named.len() {
         let Some(at) = reached.queue.get(next) else {
             break;
         };
         let update = named[*at];
         if update.is_directory() {
-            reached.reach(named, update.uid)?;
+            reached.reach(named, update.uid, Some(next))?;
         }
     }
     Ok(reached)

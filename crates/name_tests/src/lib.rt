@@ -1,7 +1,10 @@
-//! What no contract says of `name_rules`, tried: that there is memory to find which records are shown.
+//! What no contract says of `name_rules`, tried: small sets of records, what is shown of them, and
+//! their trees; and rows in order of depth.
 //!
 //! The tests stand apart from the crate that they try, so that it is proved once.
 #![tactic(auto)]
 
 #[cfg(test)]
-mod shown;
+mod depth;
+#[cfg(test)]
+mod worlds;

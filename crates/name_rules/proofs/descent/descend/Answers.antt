@@ -14,10 +14,12 @@ loop-next-init c =
     let names : List Update = map (λ u. u.now) c.args.named.now in
     let as_long = length-map c.args.named.now (λ u. u.now) in
     let e = c.in_ok-reach.ensures in
-    starts names c.in_ok-reached.reached.flags.items c.in_ok-reached.reached.queue.items c.reach.new.self.flags.items c.reach.new.self.queue.items c.in_ok-reached.ensures.none
+    starts names c.in_ok-reached.reached.flags.items c.in_ok-reached.reached.queue.items c.in_ok-reached.reached.above.items
+    c.reach.new.self.flags.items c.reach.new.self.queue.items c.reach.new.self.above.items c.in_ok-reached.ensures.none.0 c.in_ok-reached.ensures.none.1
     (subst (λ n. AreFlagged n c.reach.new.self.flags.items c.reach.new.self.queue.items) (sym as_long) e.flagged)
     (subst (λ p. HasChildren names p c.reach.new.self.flags.items) c.root_uid.ensures e.children)
     (subst (λ p. Reaches names p c.in_ok-reached.reached.flags.items c.in_ok-reached.reached.queue.items c.reach.new.self.flags.items c.reach.new.self.queue.items) c.root_uid.ensures e.more)
+    e.above
 
 pub bounds-named-at : goal.bounds-named-at
 bounds-named-at c =
@@ -38,13 +40,14 @@ loop-next-preserved c = elim c.if-is_directory.branch [
   | then-is_directory+in_ok-reach-2 w ↦
       let e = w.in_ok-reach-2.ensures in
       let now = w.reach-then-is_directory.new.self in
-      subst (λ r. Descending names (c.loop-next.next + 1) r.flags.items r.queue.items) (sym w.reached-is)
-      (enters names c.loop-next.next c.loop-next.reached.flags.items c.loop-next.reached.queue.items c.in-Some.at.now c.index-named-at.result.now now.flags.items now.queue.items
+      subst (λ r. Descending names (c.loop-next.next + 1) r.flags.items r.queue.items r.above.items) (sym w.reached-is)
+      (enters names c.loop-next.next c.loop-next.reached.flags.items c.loop-next.reached.queue.items c.loop-next.reached.above.items c.in-Some.at.now c.index-named-at.result.now
+      now.flags.items now.queue.items now.above.items
       c.loop-next.invariant place here (sym c.is_directory.ensures ∙ w.if-is_directory.true)
-      (subst (λ n. AreFlagged n now.flags.items now.queue.items) (sym as_long) e.flagged) e.children e.more)
+      (subst (λ n. AreFlagged n now.flags.items now.queue.items) (sym as_long) e.flagged) e.children e.more e.above)
   | else-is_directory w ↦
-      subst (λ r. Descending names (c.loop-next.next + 1) r.flags.items r.queue.items) (sym w.reached-is)
-      (passes names c.loop-next.next c.loop-next.reached.flags.items c.loop-next.reached.queue.items c.in-Some.at.now c.index-named-at.result.now
+      subst (λ r. Descending names (c.loop-next.next + 1) r.flags.items r.queue.items r.above.items) (sym w.reached-is)
+      (passes names c.loop-next.next c.loop-next.reached.flags.items c.loop-next.reached.queue.items c.loop-next.reached.above.items c.in-Some.at.now c.index-named-at.result.now
       c.loop-next.invariant place here (sym c.is_directory.ensures ∙ w.if-is_directory.false))
 ]
   where
@@ -78,10 +81,10 @@ loop-next-preserved c = elim c.if-is_directory.branch [
 pub returns : goal.returns
 returns c = elim c.loop-next-test.branch [
   | else-loop-next-test w ↦
-      ends names c.loop-next.next c.loop-next.reached.flags.items c.loop-next.reached.queue.items c.loop-next.invariant
+      ends names c.loop-next.next c.loop-next.reached.flags.items c.loop-next.reached.queue.items c.loop-next.reached.above.items c.loop-next.invariant
       (let e = length-map c.args.named.now (λ u. u.now) in omega (arith, w.loop-next-test.false, c.loop-next.invariant.flagged.left))
   | then-loop-next-test+in_default w ↦
-      ends names c.loop-next.next c.loop-next.reached.flags.items c.loop-next.reached.queue.items c.loop-next.invariant
+      ends names c.loop-next.next c.loop-next.reached.flags.items c.loop-next.reached.queue.items c.loop-next.reached.above.items c.loop-next.invariant
       (let e = ap length w.deref.ensures.value in omega (arith, w.in_default.ensures.lookup))
 ]
   where

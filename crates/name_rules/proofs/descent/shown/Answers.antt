@@ -38,7 +38,7 @@ returns c =
     let named : List Update = map (λ u. u.now) c.in_ok-named.named.items in
     let all : uids_at named (take c.loop-at.at-index c.as_slice-at-items.result.now) ≡ uids_at named c.in_ok-reached.reached.queue.items =
     ap (uids_at named) (take_all c.loop-at.at-index c.as_slice-at-items.result.now (omega (arith, c.loop-at-test.false)) ∙ c.as_slice-at-items.ensures.value) in
-    are_shown c.args.records.now named c.in_ok-reached.reached.flags.items c.in_ok-reached.reached.queue.items c.sort_unstable.new.self.items c.requires c.in_ok-named.ensures
-    (subst (λ l. Descends (map (λ u. u.now) l) c.in_ok-reached.reached.flags.items c.in_ok-reached.reached.queue.items) c.as_slice.ensures.value c.in_ok-reached.ensures)
+    are_shown c.args.records.now named c.in_ok-reached.reached.flags.items c.in_ok-reached.reached.queue.items c.in_ok-reached.reached.above.items c.sort_unstable.new.self.items c.requires c.in_ok-named.ensures
+    (subst (λ l. Descends (map (λ u. u.now) l) c.in_ok-reached.reached.flags.items c.in_ok-reached.reached.queue.items c.in_ok-reached.reached.above.items) c.as_slice.ensures.value c.in_ok-reached.ensures)
     (subst (λ l. IsPermutation l c.sort_unstable.new.self.items) (c.loop-at.invariant ∙ all) c.sort_unstable.ensures.permutation)
     c.sort_unstable.ensures.sorted
