@@ -60,6 +60,6 @@ is_quiet v from usn numbered end none n r low at = by r.local refl
     by : (b : Bool) → r.local ≡ b → r.local ≡ false
     by false e = e
     by true e = absurd (
-      let silent : is_local_at v n ≡ false = none n low (below n usn above) in
-      let says : is_local_at v n ≡ true = ap (some_is (λ (r : VolRecord). r.local)) at ∙ e in
-      cc)
+        let silent : is_local_at v n ≡ false = none n low (below n usn above) in
+        let says : is_local_at v n ≡ true = ap (some_is (λ (r : VolRecord). r.local)) at ∙ e in
+        cc)

@@ -1,6 +1,9 @@
 -- The least of objects, as a loop over them finds it.
 use Rattle.std.proofs.Common.{◌≡◌, ◌⊎◌, ◌++◌, inl, inr, ℕ, Bool, true, false, cond, List, [], ◌∷◌, Option, Some, None, refl, subst, sym, arith}
 use Rattle.std.proofs.lemmas.Bool.Decides.{nat_tests}
+use Rattle.std.specs.Fn.{FnReturnsAt}
+use denote.Param.Members.{Shared}
+use denote.Ref.{Bor}
 use Rattle.frs_base.specs.Options.{In}
 use Rattle.frs_base.specs.Versions.{uid_lt}
 use Rattle.frs_base.specs.declared.version.Uid.{Uid}
@@ -50,8 +53,8 @@ module _ (Answers : Object → Bool → Type 0) (own : ℕ) where
       by false not_lower = (
         (o, in_back objects (o ∷ []) o (inl refl), passes, refl),
         of_more (IsOver (uid_of own o)) objects o
-        (λ x j. elim (over x j) [ inl failed ↦ inl failed | inr high ↦ inr (still_higher (uid_of own x) uid (uid_of own o) high not_lower) ])
-        (inr (not_itself (uid_of own o))),
+            (λ x j. elim (over x j) [ inl failed ↦ inl failed | inr high ↦ inr (still_higher (uid_of own x) uid (uid_of own o) high not_lower) ])
+            (inr (not_itself (uid_of own o))),
       )
 
   pub one_fails : (objects : List Object) (o : Object) (least : Option Uid) → IsLeast Answers own objects least → Answers o false → IsLeast Answers own (objects ++ o ∷ []) least
@@ -59,10 +62,16 @@ module _ (Answers : Object → Bool → Type 0) (own : ℕ) where
   one_fails objects o (Some uid) ((w, i, passed, is), over) fails = ((w, in_front objects (o ∷ []) w i, passed, is), of_more (IsOver uid) objects o over (inl fails))
 
 -- what each answer says is said of the least
-pub by_answers : (Answers Facts : Object → Bool → Type 0) (own : ℕ) (objects : List Object) (least : Option Uid) → ((o : Object) (b : Bool) → Answers o b → Facts o b)
+by_answers : (Answers Facts : Object → Bool → Type 0) (own : ℕ) (objects : List Object) (least : Option Uid) → ((o : Object) (b : Bool) → Answers o b → Facts o b)
     → IsLeast Answers own objects least → IsLeast Facts own objects least
 by_answers Answers Facts own objects None says none = λ o i. says o false (none o i)
 by_answers Answers Facts own objects (Some uid) says ((w, i, passed, is), over) = (
   (w, i, says w true passed, is),
   λ o j. elim (over o j) [ inl failed ↦ inl (says o false failed) | inr high ↦ inr high ],
 )
+
+-- the same of the answers of a closure
+pub by_calls : {F : Type 0} (g : Shared F (Bor Object × Unit {0}) Bool) (f : F) (Facts : Object → Bool → Type 0) (own : ℕ) (objects : List Object) (least : Option Uid)
+    → IsLeast (λ o passes. FnReturnsAt g f o passes) own objects least → ((y : Bor Object) (b : Bool) → g.post f (y, tt) b → Facts y.now b) → IsLeast Facts own objects least
+by_calls g f Facts own objects least is says =
+    by_answers (λ o passes. FnReturnsAt g f o passes) Facts own objects least (λ o b called. subst (λ x. Facts x b) called.shows (says called.shown b called.says.met)) is

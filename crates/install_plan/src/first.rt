@@ -22,7 +22,11 @@ pub(crate) fn first_to_park(volume: &Volume, book: &Book, shown: &[Uid]) -> Opti
     ensures { IsFirst (λ uid. Needs volume.now.state book.now.state (Park uid))
         (NothingToPark (Among book.now.state.records) volume.now.state.own (maps_of volume.now.state)) result }
 {
-    least(volume.objects(), volume.own(), |object| is_astray(volume, book, shown, object))
+    least(
+        volume.objects(),
+        volume.own(),
+        |object| is_astray(volume, book, shown, object),
+    )
 }
 
 /// The least file or directory whose object is to go.
@@ -31,14 +35,20 @@ pub(crate) fn first_to_erase(volume: &Volume, book: &Book) -> Option<Uid>
     ensures { IsFirst (λ uid. Needs volume.now.state book.now.state (Erase uid))
         (NothingToErase (Among book.now.state.records) volume.now.state.own (maps_of volume.now.state)) result }
 {
-    least(volume.objects(), volume.own(), |object| is_removed(volume, book, object))
+    least(
+        volume.objects(),
+        volume.own(),
+        |object| is_removed(volume, book, object),
+    )
 }
 
 /// The first of these that no object has.
 fn first_without_object(volume: &Volume, uids: &[Uid]) -> Option<Uid>
     ensures { result ≡ find (λ uid. is_none (object_of volume.now.state uid)) uids.now }
 {
-    uids.iter().copied().find(|uid| volume.object_of(*uid).is_none())
+    uids.iter()
+        .copied()
+        .find(|uid| volume.object_of(*uid).is_none())
 }
 
 /// The least file or directory that needs an object.
@@ -58,7 +68,11 @@ pub(crate) fn first_to_rewrite(volume: &Volume, book: &Book) -> Option<Uid>
     ensures { IsFirst (λ uid. Needs volume.now.state book.now.state (Rewrite uid))
         (NothingToRewrite (Among book.now.state.records) volume.now.state.own (maps_of volume.now.state)) result }
 {
-    least(volume.objects(), volume.own(), |object| is_outdated(volume, book, object))
+    least(
+        volume.objects(),
+        volume.own(),
+        |object| is_outdated(volume, book, object),
+    )
 }
 
 /// The least file or directory that is to get its place.
@@ -68,7 +82,11 @@ pub(crate) fn first_to_place(volume: &Volume, book: &Book, shown: &[Uid]) -> Opt
     ensures { IsFirst (λ uid. Needs volume.now.state book.now.state (Place uid))
         (NothingToPlace (Among book.now.state.records) volume.now.state.own (maps_of volume.now.state)) result }
 {
-    least(volume.objects(), volume.own(), |object| is_awaited(volume, book, shown, object))
+    least(
+        volume.objects(),
+        volume.own(),
+        |object| is_awaited(volume, book, shown, object),
+    )
 }
 
 /// The least file whose staged contents are to go.
@@ -76,5 +94,9 @@ pub(crate) fn first_to_unstage(volume: &Volume, book: &Book) -> Option<Uid>
     ensures { IsFirst (λ uid. Needs volume.now.state book.now.state (Unstage uid))
         (NothingToUnstage volume.now.state.own (maps_of volume.now.state) (staged_hashes book.now.state)) result }
 {
-    least(volume.objects(), volume.own(), |object| is_installed(volume, book, object))
+    least(
+        volume.objects(),
+        volume.own(),
+        |object| is_installed(volume, book, object),
+    )
 }

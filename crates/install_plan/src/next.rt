@@ -8,7 +8,10 @@ ghost use Rattle.record_db.specs.State.{IsBook};
 ghost use Rattle.install_plan.specs.First.{IsIdle, IsNextOf};
 ghost use Rattle.install_plan.specs.Staged.{staged_hashes};
 
-use crate::first::{first_to_erase, first_to_make, first_to_park, first_to_place, first_to_rewrite, first_to_unstage};
+use crate::first::{
+    first_to_erase, first_to_make, first_to_park, first_to_place, first_to_rewrite,
+    first_to_unstage,
+};
 use crate::pending::first_pending;
 use frs_base::Uid;
 use name_rules::{Next, Step, shown};

@@ -54,7 +54,11 @@ fn command(alloc: Global, line: &str) -> Result<VolCmd, Fail> {
     }
     if word == "make" {
         let uid = uid_of(words.next())?;
-        let kind = if words.next() == Some("d") { Kind::Directory } else { Kind::File };
+        let kind = if words.next() == Some("d") {
+            Kind::Directory
+        } else {
+            Kind::File
+        };
         return Ok(VolCmd::Make { uid, kind, bytes });
     }
     let fid = number(words.next())?;
@@ -133,7 +137,11 @@ pub(crate) fn fill_book(
     for (at, line) in lines.split("; ").enumerate() {
         let update = record_of(alloc, volume, line, 100 + at as u64)?;
         let staged = line.ends_with(" staged");
-        let form = if staged { Some(Bytes::of(Vec::new(alloc))) } else { None };
+        let form = if staged {
+            Some(Bytes::of(Vec::new(alloc)))
+        } else {
+            None
+        };
         book.adopt(alloc, update, form)?;
     }
     Ok(())

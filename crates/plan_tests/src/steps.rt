@@ -92,7 +92,8 @@ make 2:20 f; place 1 0 x | 9 | 2:20 f root x same -> skip 9
 make 2:20 f; place 1 0 x | 11 | 2:20 f root x same -> drained";
 
 /// The kinds in their order, and the least UID first.
-const ORDER: &str = "make 2:20 f; make 2:21 f; place 2 0 x | 12 | 2:20 gone root a other -> park 2:21
+const ORDER: &str =
+    "make 2:20 f; make 2:21 f; place 2 0 x | 12 | 2:20 gone root a other -> park 2:21
 make 2:20 f | 10 | 2:20 gone root x other; 2:10 f root y other -> erase 2:20
 make 2:20 f | 10 | 2:20 f root x other; 2:30 f root y other -> make 2:30
 make 2:20 f; make 2:21 f | 11 | 2:20 f root x same; 2:21 f root y other -> rewrite 2:21
@@ -102,7 +103,8 @@ none | 9 | 2:21 f root a other; 2:20 f root b other -> make 2:20
 make 2:21 f; make 2:20 f | 11 | 2:21 f root a same; 2:20 f root b same -> place 2:20";
 
 /// Names that several records want.
-const NAMES: &str = "none | 9 | 2:20 f root x other; 2:21 f root X other; 2:22 f root x other -> make 2:22
+const NAMES: &str =
+    "none | 9 | 2:20 f root x other; 2:21 f root X other; 2:22 f root x other -> make 2:22
 put 0 x | 10 | 1:9 f root x same; 2:20 f root X other -> park 1:9
 put 0 x | 10 | 2:20 f root X other; 1:9 f root x same -> drained
 make 2:20 f; place 1 0 x; make 2:21 f; place 2 0 y | 13 | 2:20 f root y same; 2:21 f root x same -> park 2:20
@@ -110,7 +112,8 @@ make 2:20 f; place 1 0 x; make 2:21 f; place 2 0 y; park 1 | 14 | 2:20 f root y 
 make 2:20 f; make 2:21 f | 11 | 2:20 f root y same; 2:21 f root x same -> place 2:20";
 
 /// Parents that were removed, and parents on a cycle.
-const PARENTS: &str = "make 2:20 d; place 1 0 d; make 2:21 f; place 2 1 x | 13 | 2:20 gone root d other; 2:21 f 2:20 x same -> park 2:20
+const PARENTS: &str =
+    "make 2:20 d; place 1 0 d; make 2:21 f; place 2 1 x | 13 | 2:20 gone root d other; 2:21 f 2:20 x same -> park 2:20
 make 2:20 d; make 2:21 f | 11 | 2:20 gone root d other; 2:21 f 2:20 x same -> erase 2:20
 make 2:21 f | 10 | 2:20 gone root d other; 2:21 f 2:20 x same -> drained
 none | 9 | 2:20 d 2:21 a other; 2:21 d 2:20 b other -> drained

@@ -3,7 +3,7 @@ use Rattle.std.specs.Prelude.{MatchBool}
 use Rattle.vol_state.specs.declared.object.Object.{Object}
 use Rattle.install_plan.specs.Least.{IsLeast}
 use Rattle.install_plan.specs.Objects.{IsInstalled}
-use Rattle.install_plan.proofs.Lowest.{by_answers}
+use Rattle.install_plan.proofs.Lowest.{by_calls}
 use Rattle.install_plan.proofs.OfObjects.{unstages, told}
 use Rattle.install_plan.proofs.first.first_to_unstage.Goals as goal
 
@@ -12,7 +12,7 @@ returns c =
     unstages c.args.volume.now.state c.objects.ensures.valid c.args.book.now.state c.least.result
     (subst (λ own. IsLeast Facts own c.args.volume.now.state.objects c.least.result) c.own.ensures
     (subst (λ l. IsLeast Facts c.own.result l c.least.result) c.objects.ensures.objects
-    (by_answers _ Facts c.own.result c.objects.result.now c.least.result (λ o b called. told (IsInstalled c.args.volume.now.state c.args.book.now.state o) b (search (rules, of_calls))) c.least.ensures)))
+    (by_calls _ _ Facts c.own.result c.objects.result.now c.least.result c.least.ensures (λ y b called. told (IsInstalled c.args.volume.now.state c.args.book.now.state y.now) b (search (rules, of_calls))))))
   where
     Facts : Object → Bool → Type 0
     Facts = (λ o b. MatchBool b (IsInstalled c.args.volume.now.state c.args.book.now.state o) (IsInstalled c.args.volume.now.state c.args.book.now.state o → ⊥))

@@ -1,0 +1,7 @@
+use Rattle.std.proofs.Common.{subst, sym, ◌∙◌}
+use Rattle.vol_state.specs.Journal.{IsNumbered}
+use Rattle.vol_state.proofs.Numbering.{keeps_numbering}
+use Rattle.plan_tests.proofs.made.fill_volume.Goals as goal
+
+pub loop-line-preserved : goal.loop-line-preserved
+loop-line-preserved c = ?
