@@ -8,7 +8,7 @@ use Rattle.frs_base.specs.Options.{In}
 use Rattle.frs_base.specs.Versions.{uid_lt}
 use Rattle.frs_base.specs.declared.version.Uid.{Uid}
 use Rattle.vol_state.specs.declared.object.Object.{Object}
-use Rattle.vol_state.specs.State.{uid_of}
+use Rattle.vol_state.specs.State.{State, uid_of}
 use Rattle.name_rules.proofs.Lists.{in_back, in_either, in_front}
 use Rattle.install_plan.specs.Least.{IsLeast, lower_of}
 
@@ -70,8 +70,11 @@ by_answers Answers Facts own objects (Some uid) says ((w, i, passed, is), over) 
   λ o j. elim (over o j) [ inl failed ↦ inl (says o false failed) | inr high ↦ inr high ],
 )
 
--- the same of the answers of a closure
-pub by_calls : {F : Type 0} (g : Shared F (Bor Object × Unit {0}) Bool) (f : F) (Facts : Object → Bool → Type 0) (own : ℕ) (objects : List Object) (least : Option Uid)
-    → IsLeast (λ o passes. FnReturnsAt g f o passes) own objects least → ((y : Bor Object) (b : Bool) → g.post f (y, tt) b → Facts y.now b) → IsLeast Facts own objects least
-by_calls g f Facts own objects least is says =
-    by_answers (λ o passes. FnReturnsAt g f o passes) Facts own objects least (λ o b called. subst (λ x. Facts x b) called.shows (says called.shown b called.says.met)) is
+-- the same of the answers of a closure, of the objects of a volume
+pub by_calls : {F : Type 0} (g : Shared F (Bor Object × Unit {0}) Bool) (f : F) (Facts : Object → Bool → Type 0) (v : State) (own : ℕ) (objects : List Object) (least : Option Uid)
+    → own ≡ v.own → objects ≡ v.objects → IsLeast (λ o passes. FnReturnsAt g f o passes) own objects least → ((y : Bor Object) (b : Bool) → g.post f (y, tt) b → Facts y.now b)
+    → IsLeast Facts v.own v.objects least
+by_calls g f Facts v own objects least whose listed is says =
+    subst (λ db. IsLeast Facts db v.objects least) whose
+    (subst (λ l. IsLeast Facts own l least) listed
+    (by_answers (λ o passes. FnReturnsAt g f o passes) Facts own objects least (λ o b called. subst (λ x. Facts x b) called.shows (says called.shown b called.says.met)) is))

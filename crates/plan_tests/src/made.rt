@@ -135,7 +135,8 @@ pub(crate) fn fill_book(
         return Ok(());
     }
     for (at, line) in lines.split("; ").enumerate() {
-        let update = record_of(alloc, volume, line, 100 + at as u64)?;
+        let clock = (at as u64).saturating_add(100);
+        let update = record_of(alloc, volume, line, clock)?;
         let staged = line.ends_with(" staged");
         let form = if staged {
             Some(Bytes::of(Vec::new(alloc)))

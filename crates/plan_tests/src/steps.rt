@@ -4,20 +4,15 @@ ghost use Rattle.vol_state.specs.Journal.{IsNumbered};
 use crate::made::{fill_book, fill_volume};
 use frs_base::{MemberKind, Uid, content_set, database_of};
 use install_plan::next_step;
-use name_rules::{Next, Subject};
+use name_rules::{Next, Step, Subject};
 use record_db::Book;
 use std::alloc::Global;
 use std::process::Abort;
 use std::test::Fail;
 use vol_state::Volume;
 
-/// What is done next, as a text.
-fn text_of(alloc: Global, next: Next) -> Result<String, Fail> {
-    let step = match next {
-        Next::Drained => return Ok(String::from_str(alloc, "drained")?),
-        Next::NotYet { usn } => return Ok(format!(in alloc; "not yet {usn}")?),
-        Next::Do(step) => step,
-    };
+/// A step as a text: its word, and what it is of.
+fn step_text(alloc: Global, step: Step) -> Result<String, Fail> {
     let word = step.word();
     match step.subject() {
         Subject::Usn(usn) => Ok(format!(in alloc; "{word} {usn}")?),
@@ -25,6 +20,15 @@ fn text_of(alloc: Global, next: Next) -> Result<String, Fail> {
             let member = db.number() % 16;
             Ok(format!(in alloc; "{word} {member}:{version}")?)
         }
+    }
+}
+
+/// What is done next, as a text.
+fn text_of(alloc: Global, next: Next) -> Result<String, Fail> {
+    match next {
+        Next::Drained => Ok(String::from_str(alloc, "drained")?),
+        Next::NotYet { usn } => Ok(format!(in alloc; "not yet {usn}")?),
+        Next::Do(step) => step_text(alloc, step),
     }
 }
 
