@@ -1,1 +1,4 @@
 pub mod Staged
+pub mod Objects
+pub mod Least
+pub mod First
