@@ -1,12 +1,13 @@
 -- Commands on the book that may be taken, and what they answer.
 use Rattle.std.proofs.Common.{◌≡◌, ◌<◌, ◌≤◌, ◌-◌, ◌^◌, ◌&&◌, not, ℕ, Bool, true, false, cond, eqb, leb, ltb, List, Option, Some, None, Result, Ok, Err, refl, sym, ap, ◌∙◌, subst, inl, inr, arith}
-use Rattle.std.specs.Prelude.{[], if◌then◌else◌, IfOk, MatchBool, IsSome, unwrap_or}
+use Rattle.std.specs.Prelude.{[], if◌then◌else◌, IfOk, MatchBool, IsSome, option_map, unwrap_or}
 use Rattle.std.proofs.lemmas.Bool.Decides.{nat_tests}
 use Rattle.frs_base.specs.Versions.{same_gvsn}
 use Rattle.frs_base.specs.declared.version.Gvsn.{Gvsn}
 use Rattle.marshal_form.specs.Local.{IsLocalForm}
 use Rattle.version_vector.specs.Versions.{covers}
 use Rattle.win_order.specs.declared.update.Update.{Update}
+use Rattle.vol_state.specs.declared.record.VolRecord.{VolRecord}
 use Rattle.vol_state.specs.Journal.{record_at}
 use Rattle.vol_state.specs.Maps.{maps_of}
 use Rattle.record_db.specs.declared.command.BookCmd.TheVariants as cmd
@@ -37,7 +38,8 @@ use Rattle.folder_core.specs.Consume.{AnswersConsume, AnswersMade, AnswersRecord
 use Rattle.folder_core.specs.Adopt.{ChecksForm, Stages, adopt_refusal}
 use Rattle.folder_core.specs.Given.{MayTake}
 use Rattle.folder_core.specs.Install.{IsNextOf}
-use Rattle.folder_core.specs.Sound.{IsSound}
+use Rattle.folder_core.specs.Notes.{form_sum}
+use Rattle.folder_core.specs.Sound.{IsSound, MayBeStaged}
 use Rattle.folder_core.proofs.Fitting.{gives_way_to, is_clear, is_fit}
 use Rattle.folder_core.proofs.Held.{each_of, record_there}
 use Rattle.folder_core.proofs.Staging.{nothing_staged}

@@ -1,11 +1,12 @@
 -- The next step of the installer may be done.
-use Rattle.std.proofs.Common.{◌≡◌, ◌≢◌, cond, ◌<◌, ◌-◌, ◌^◌, ◌&&◌, ℕ, Bool, true, false, not, eqb, List, [], Option, Some, None, refl, sym, ap, ◌∙◌, subst, inl, inr, arith}
-use Rattle.std.specs.Prelude.{IsSome, MatchOption, option_map}
-use Rattle.std.proofs.lemmas.Bool.Decides.{nat_tests}
+use Rattle.std.proofs.Common.{◌≡◌, ◌≢◌, cond, ◌<◌, ◌-◌, ◌^◌, ◌&&◌, ℕ, Bool, true, false, not, eqb, List, [], Option, Some, None, Result, Ok, Err, refl, sym, ap, ◌∙◌, subst, inl, inr, arith}
+use Rattle.std.specs.Prelude.{IfOk, IsSome, MatchOption, option_map}
+use Rattle.std.specs.declared.alloc.AllocError.{AllocError}
 use Rattle.frs_base.specs.Options.{In, some_is}
 use Rattle.frs_base.specs.declared.kind.Kind.TheVariants as kind
 use Rattle.frs_base.specs.declared.sum.Sum.{Sum}
 use Rattle.frs_base.specs.declared.version.Uid.{Uid}
+use Rattle.frs_base.specs.Versions.{same_uid}
 use Rattle.win_order.specs.declared.update.Update.{Update}
 use Rattle.vol_state.specs.declared.command.VolCmd.{VolCmd}
 use Rattle.vol_state.specs.declared.command.VolCmd.TheVariants as vol
@@ -22,22 +23,25 @@ use Rattle.vol_state.specs.Tables.{IsAt, IsReplica}
 use Rattle.vol_state.proofs.Finding.{at_in}
 use Rattle.vol_state.proofs.Tabling.{tables_are_tests}
 use Rattle.record_db.specs.State.{form_of}
+use Rattle.record_db.proofs.Lists.{find_at}
 use Rattle.record_db.proofs.Keys.{same_uid_is, same_uid_refl}
 use Rattle.name_rules.specs.Recorded.{held_of, parent_uid}
-use Rattle.name_rules.specs.Next.{IsThere}
+use Rattle.name_rules.specs.Next.{IsAnswer, IsThere}
 use Rattle.name_rules.specs.Tree.{kind_of}
+use Rattle.name_rules.specs.declared.step.Next.{Next}
 use Rattle.name_rules.specs.declared.step.Next.TheVariants as next
 use Rattle.name_rules.specs.declared.step.Step.{Step}
 use Rattle.name_rules.specs.declared.step.Step.TheVariants.{Erase, Make, Park, Place, Rewrite}
 use Rattle.name_rules.proofs.Parents.{parent_is}
 use Rattle.name_rules.proofs.Showing.{shown_record}
+use Rattle.install_plan.specs.Staged.{staged_hash, staged_hashes}
 use Rattle.world_model.specs.Folder.{AreStaged, GivesStaged}
 use Rattle.world_model.proofs.Alone.{has_home, steps_fit}
 use Rattle.world_model.proofs.Progress.{HasHome}
-use Rattle.folder_core.specs.Install.{GivesContents, IsNextOf, IsOperation, IsRecordOf, MayInstall, contents_in}
+use Rattle.folder_core.specs.Install.{GivesContents, HasRecord, IsNextOf, IsOperation, IsRecordOf, MayInstall, contents_in}
 use Rattle.folder_core.specs.Machine.{Machine}
 use Rattle.folder_core.specs.Notes.{form_sum}
-use Rattle.folder_core.specs.Sound.{IsSound, member_of}
+use Rattle.folder_core.specs.Sound.{IsSound, member_of, staged_sums}
 use Rattle.folder_core.proofs.Alike.{stands_for_maps}
 use Rattle.folder_core.proofs.Fitting.{object_found}
 use Rattle.folder_core.proofs.Giving.{sum_is}
@@ -226,3 +230,44 @@ given_is m now step of op path ready e = subst (λ x. IsOperation x step op) pat
 -- the next step, of what equals the machine
 pub next_at : (m now : Machine) (step : Step) → m ≡ now → IsNextOf now (next.Do step) → IsNextOf m (next.Do step)
 next_at m now step path n = subst (λ x. IsNextOf x (next.Do step)) (sym path) n
+
+-- ---- what the installer does next
+
+-- the hash of a file's record is the sum of the form that is staged of it
+hash_is : (m : Machine) → IsSound m → (uid : Uid) → staged_hashes m.book uid ≡ staged_sums m.book uid
+hash_is m h uid = by (form_of m.book uid) refl
+  where
+    by : (form : Option (List ℕ)) → form_of m.book uid ≡ form → staged_hash form (held_of m.book.records uid) ≡ option_map form_sum form
+    by None e = refl
+    by (Some form) e =
+        let (v, among, id, file, hash) = h.agrees.member.contents.staged uid (form_sum form) (ap (λ f. option_map form_sum f) e) in
+        ap (λ held. option_map (λ (u : Update). u.hash) held) (find_at m.book.records uid v h.order.book.rising among id) ∙ ap (λ s. Some s) hash
+
+-- so the plan's answer is the machine's
+pub next_is : (m now : Machine) (r : Result Next AllocError) → m ≡ now → IsSound m
+    → IfOk r (λ n. IsAnswer (λ u. In u m.book.records) m.book.own (maps_of m.volume) (staged_hashes m.book) m.book.consumed n) → IfOk r (IsNextOf now)
+next_is m now (Ok n) path h a =
+    subst (λ x. IsNextOf x n) path (subst (λ s. IsAnswer (λ u. In u m.book.records) m.book.own (maps_of m.volume) s m.book.consumed n) (λ i. λ uid. hash_is m h uid i) a)
+next_is m now (Err e) path h a = tt
+
+-- ---- records
+
+-- a file or directory that has a record
+pub record_found : (m now : Machine) (uid : Uid) → m ≡ now → IsSound m → HasRecord now uid → (u : Update) × (held_of m.book.records uid ≡ Some u) × IsRecordOf now uid u
+record_found m now uid path h has =
+    let (u, is) = subst (λ x. HasRecord x uid) (sym path) has in
+    (u, find_at m.book.records uid u h.order.book.rising is.0 is.1, subst (λ x. IsRecordOf x uid u) path is)
+
+-- the next steps that make an object or place one are of files and directories that have records
+pub makes_of : (m : Machine) (uid : Uid) → IsNextOf m (next.Do (Make uid)) → HasRecord m uid
+makes_of m uid (quiet, n) = let (u, shown, id, fresh) = n.candidate in (u, (shown_record (λ v. In v m.book.records) u shown, id))
+
+pub places_of : (m : Machine) (uid : Uid) → IsNextOf m (next.Do (Place uid)) → HasRecord m uid
+places_of m uid (quiet, n) = let (f, o, u, at, is, limbo, shown, id) = n.candidate in (u, (shown_record (λ v. In v m.book.records) u shown, id))
+
+-- ---- answers
+
+-- what is read of a success is this, where it is that
+pub ok_with : {T E X : Type 0} (f : T → X) {x y : X} (r : Result T E) → x ≡ y → IfOk r (λ v. f v ≡ x) → IfOk r (λ v. f v ≡ y)
+ok_with f (Ok v) e h = h ∙ e
+ok_with f (Err w) e h = tt

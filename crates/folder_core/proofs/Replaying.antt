@@ -4,9 +4,14 @@ use Rattle.std.specs.Prelude.{if◌then◌else◌, MatchBool, MatchOption, Match
 use Rattle.win_order.specs.declared.update.Update.{Update}
 use Rattle.vol_state.specs.declared.command.VolCmd.{VolCmd}
 use Rattle.vol_state.specs.declared.operation.Refused.{Refused}
+use Rattle.vol_state.specs.Effects.{effect}
 use Rattle.vol_state.specs.Paths.{resolve}
 use Rattle.record_db.specs.declared.command.BookCmd.{BookCmd}
 use Rattle.record_db.specs.declared.command.BookCmd.TheVariants as cmd
+use Rattle.name_rules.specs.declared.step.Next.{Next}
+use Rattle.name_rules.specs.declared.step.Next.TheVariants as next
+use Rattle.name_rules.specs.declared.step.Step.{Step}
+use Rattle.name_rules.specs.declared.step.Step.TheVariants as step
 use Rattle.folder_core.specs.declared.answer.Answer.{Answer}
 use Rattle.folder_core.specs.declared.entry.Entry.{Entry}
 use Rattle.folder_core.specs.declared.mark.Mark.{Mark}
@@ -19,11 +24,12 @@ use Rattle.folder_core.specs.declared.reply.Reply.{Reply}
 use Rattle.folder_core.specs.declared.reply.Reply.TheVariants as reply
 use Rattle.folder_core.specs.Machine.{Machine, Refuses, fresh_machine}
 use Rattle.folder_core.specs.Notes.{mark_of, note_of}
-use Rattle.folder_core.specs.Books.{Takes}
+use Rattle.folder_core.specs.Books.{Changed, Takes}
 use Rattle.folder_core.specs.Local.{Operates}
 use Rattle.folder_core.specs.Consume.{AnswersRecord, is_at_end, made_at}
 use Rattle.folder_core.specs.Adopt.{AnswersForm, adopt_refusal}
 use Rattle.folder_core.specs.Finish.{first_unheld}
+use Rattle.folder_core.specs.Install.{AnswersNext, Installs}
 use Rattle.folder_core.specs.Answers.{Answers}
 use Rattle.folder_core.specs.Given.{IsNoted}
 use Rattle.folder_core.specs.Replay.{AreEarly, Does, Enters, IsEarly, IsFolder, IsGeneration, Leads, Replays, Seen, Stand, stand_of}
@@ -41,22 +47,28 @@ pub record Keeps (old new : Machine) : Type 0 where
 same_keeps : (old new : Machine) → new ≡ old → Keeps old new
 same_keeps old new same = subst (λ m. Keeps old m) (sym same) (record { kind = refl; own = refl; set = refl; usn = omega arith })
 
-takes_keep : (op : BookCmd) (done said : Reply) (old new : Machine) → Takes op done old said new → Keeps old new
-takes_keep op done said old new (inl (is, c)) = record {
+changed_keeps : (op : BookCmd) (old new : Machine) → Changed op old new → Keeps old new
+changed_keeps op old new c = record {
   kind = c.book.kind;
   own = c.book.own;
   set = c.book.set;
   usn = let same = ap (λ v. v.next_usn) c.volume in omega (arith, same);
 }
+
+takes_keep : (op : BookCmd) (done said : Reply) (old new : Machine) → Takes op done old said new → Keeps old new
+takes_keep op done said old new (inl (is, c)) = changed_keeps op old new c
 takes_keep op done said old new (inr (count, full)) = same_keeps old new full.1.1
 
-local_keeps : (old new : Machine) (said : Reply) (r : Result VolCmd Refused) → MatchResult r (λ cmd. Operates cmd old said new) (λ w. Refuses (why.Local w) old said new) → Keeps old new
-local_keeps old new said (Ok cmd) (is, same) = record {
+effect_keeps : (old new : Machine) (op : VolCmd) → new ≡ record old { volume = effect op old.volume } → Keeps old new
+effect_keeps old new op same = record {
   kind = ap (λ (m : Machine). m.book.kind) same;
   own = ap (λ (m : Machine). m.book.own) same;
   set = ap (λ (m : Machine). m.book.set) same;
-  usn = let next = ap (λ (m : Machine). m.volume.next_usn) same in let one = one_usn cmd old.volume in omega (arith, next, one);
+  usn = let next = ap (λ (m : Machine). m.volume.next_usn) same in let one = one_usn op old.volume in omega (arith, next, one);
 }
+
+local_keeps : (old new : Machine) (said : Reply) (r : Result VolCmd Refused) → MatchResult r (λ cmd. Operates cmd old said new) (λ w. Refuses (why.Local w) old said new) → Keeps old new
+local_keeps old new said (Ok cmd) (is, same) = effect_keeps old new cmd same
 local_keeps old new said (Err w) (is, same) = same_keeps old new same
 
 made_keeps : (u : Update) (old new : Machine) (said : Reply) (b : Bool) (cmd : BookCmd) (done : Reply) (w : Refusal) → MatchBool b (Refuses w old said new) (Takes cmd done old said new) → Keeps old new
@@ -85,7 +97,10 @@ adopt_keeps : (old new : Machine) (said : Reply) (u : Update) (form : Option (Li
 adopt_keeps old new said u form None (staged, stages, h) = form_keeps old new said u staged h
 adopt_keeps old new said u form (Some w) h = same_keeps old new h.1
 
--- a command on the volume leaves all else
+installs_keep : (s : Step) (old new : Machine) (said : Reply) → Installs s old said new → Keeps old new
+installs_keep s old new said (op, is, did, same) = effect_keeps old new op same
+
+-- so does a step of the installer
 next_keeps : (n : Next) (old new : Machine) (said : Reply) → AnswersNext n old said new → Keeps old new
 next_keeps (next.Do (step.Park uid)) old new said h = installs_keep _ old new said h
 next_keeps (next.Do (step.Erase uid)) old new said h = installs_keep _ old new said h

@@ -67,6 +67,7 @@ impl Machine {
         ensures noted { IfOk result (λ answer. IsNoted answer self.old self.new) }
         ensures err { OnErr result (self.new ≡ self.old) }
     {
+        let _ = self.book();
         self.operate(alloc, cmd)?;
         Ok(did(step))
     }
@@ -156,6 +157,7 @@ impl Machine {
         ensures noted { IfOk result (λ answer. IsNoted answer self.old self.new) }
         ensures err { OnErr result (self.new ≡ self.old) }
     {
+        let _ = self.book();
         let cmd = BookCmd::RecordLocal { usn, update: None };
         let Answer { reply, mark, moved: _ } = did(&Step::Skip(usn));
         self.widen(alloc, cmd, reply, mark)
