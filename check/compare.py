@@ -1,9 +1,10 @@
 #!/usr/bin/env python3
 """Runs random scripts through the model and through dfsr, and stops at the first that differs.
 
-Usage: check/compare.py [--full] [COUNT [FIRST]], COUNT scripts (2000) from the seed FIRST (0) on; with
---full ones whose vectors come to have as many intervals as they may, of which each takes a while (5). The
-program is built first where it has to be. A script that differs is kept, and its name is printed.
+Usage: check/compare.py [--install | --full] [COUNT [FIRST]], COUNT scripts (2000) from the seed FIRST (0) on;
+with --install ones whose members install too; with --full ones whose vectors come to have as many intervals as
+they may, of which each takes a while (5). The program is built first where it has to be. A script that differs
+is kept, and its name is printed.
 """
 import pathlib
 import random
@@ -26,6 +27,8 @@ FLAWS = ["  ", " ", "\t", "\r", "0", "+", "-", "/", "\\", "#", "\u00e9", "x" * 2
 class Writer:
     """Writes a random script: a few members, few names, so that paths often meet."""
 
+    kinds = KINDS
+
     def __init__(self, seed):
         self.random = random.Random(seed)
         self.names = ["a", "b", "c", "dd", "e", "zz"][: self.random.randint(1, 6)]
@@ -43,7 +46,7 @@ class Writer:
         return f"member {name} {self.random.choice(['primary', 'plain'])}"
 
     def row(self):
-        pick, kind = self.random.choice, self.random.choice(KINDS)
+        pick, kind = self.random.choice, self.random.choice(self.kinds)
         name, moment = pick(self.names), self.random.randint(0, self.latest)
         if kind == "put":
             return f"put {name} {self.path()} {pick(TEXTS)}"
@@ -67,16 +70,49 @@ class Writer:
             return pick(["", "# nothing"])
         return f"{kind} {name}"
 
+    def ending(self):
+        return [f"{kind} {name}" for name in self.names for kind in ("show", "tree", "sums", "count")]
+
     def script(self):
         members = [self.member(name) for name in self.names if self.random.random() < 0.85]
-        rows = members + [self.row() for _ in range(self.random.randint(1, 120))]
-        rows += [f"{kind} {name}" for name in self.names for kind in ("show", "tree", "sums", "count")]
+        rows = members + [self.row() for _ in range(self.random.randint(1, 120))] + self.ending()
         text = "\n".join(rows) + self.random.choice(["", "\n"])
         if self.random.random() < 0.1:
             at = self.random.randrange(len(text) + 1)
             text = text[:at] + self.random.choice(FLAWS) + text[at + self.random.randint(0, 2) :]
         script = text.encode()
         return script + b"\xff" if self.random.random() < 0.01 else script
+
+
+class InstallWriter(Writer):
+    """Writes a random script whose members install too, few of them, so that they often hold the same files; in
+    the end they often settle, and then show the same records and the same tree."""
+
+    kinds = KINDS + "install install install drain drain pull pull pull".split()
+
+    def __init__(self, seed):
+        super().__init__(seed)
+        self.names = ["a", "b", "c"][: self.random.randint(2, 3)]
+        self.depths = self.random.choice([[1], [1, 1, 2], [1, 1, 2, 3]])
+
+    def row(self):
+        row = super().row()
+        word, name = (row.split(" ") + [""])[:2]
+        if word in ("put", "fill", "mkdir", "move", "remove") and self.random.random() < 0.85:
+            return f"{row}\nconsume {name} {self.random.randint(0, self.latest)}"
+        if word == "install":
+            pull = f"pull {name} {self.random.choice(self.names)}"
+            return "\n".join([pull] + [row] * self.random.randint(1, 8))
+        return row
+
+    def settling(self):
+        changes = [f"change {name} settled {self.latest}" for name in self.names]
+        pulls = [f"pull {name} {other}" for name in self.names for other in self.names if name != other]
+        drains = [f"drain {name}" for name in self.names]
+        return changes + 2 * (2 * pulls + drains)
+
+    def ending(self):
+        return (self.settling() if self.random.random() < 0.7 else []) + super().ending()
 
 
 class FullWriter:
@@ -100,6 +136,9 @@ class FullWriter:
         return "\n".join(rows).encode()
 
 
+WRITERS = {"--install": InstallWriter, "--full": FullWriter}
+
+
 def differs(seed, writer):
     """Whether the model and the program differ; the script is kept then."""
     script = writer(seed).script()
@@ -115,8 +154,9 @@ def differs(seed, writer):
 
 def main():
     words = sys.argv[1:]
-    writer, usual = (FullWriter, "5") if words[:1] == ["--full"] else (Writer, "2000")
-    words = words[1:] if writer is FullWriter else words
+    writer = WRITERS.get(words[0], Writer) if words else Writer
+    words = words[writer is not Writer :]
+    usual = "5" if writer is FullWriter else "2000"
     count, first = (int(word) for word in (words + [usual, "0"][len(words) :]))
     subprocess.run([TOP / "dfsr", "--version"], check=True, stdout=subprocess.DEVNULL)
     if any(differs(seed, writer) for seed in range(first, first + count)):

@@ -2,11 +2,14 @@
 
 It is written for being read, not for speed: sets, dictionaries and whole lists.
 """
+import collections
+import functools
 import hashlib
 import re
 import struct
 
 ROOT = ("root",)
+LIMBO = None
 LARGEST_SCRIPT, MOST_MEMBERS, LARGEST_FILE = 16_777_216, 8, 1_048_576
 MOST_INTERVALS = 65_536
 
@@ -17,7 +20,8 @@ NUMBER = "(?:0|[1-9][0-9]*)"
 LINE = re.compile(
     f"member {MEMBER} (?:primary|plain)|put {MEMBER} {PATH} .*|fill {MEMBER} {PATH} {NUMBER}"
     f"|(?:mkdir|remove) {MEMBER} {PATH}|move {MEMBER} {PATH} {PATH}|consume {MEMBER} {NUMBER}"
-    f"|change {MEMBER} {PATH} {NUMBER}|pull {MEMBER} {MEMBER}|(?:show|tree|sums|count) {MEMBER}",
+    f"|change {MEMBER} {PATH} {NUMBER}|pull {MEMBER} {MEMBER}"
+    f"|(?:install|drain|show|tree|sums|count) {MEMBER}",
     re.DOTALL,
 )
 LIMITS = {"fill": 2**32, "consume": 2**61, "change": 2**61}
@@ -50,6 +54,7 @@ def fold(name):
     return "".join(chr(ord(c) + 32) if "A" <= c <= "Z" else c for c in name)
 
 
+@functools.cache
 def sum_of(data):
     """The SHA-1, in hexadecimal digits, of the marshalled form of a local file with these contents."""
     head = struct.pack("<4sIIIQIIIQ", b"FRSM", 1, 1, 0, 4, 0x20, 2, 0, len(data))
@@ -57,19 +62,25 @@ def sum_of(data):
 
 
 class Obj:
-    """A file or directory of a volume; its UID is its member's number and the USN at which it was made."""
+    """A file or directory of a volume, at a place or in limbo. Its UID is its member's number and the USN at
+    which it was made, or the one that the installer gave it."""
 
-    def __init__(self, fid, parent, name, kind, born, data):
-        self.fid, self.parent, self.name, self.kind = fid, parent, name, kind
-        self.born, self.data, self.last = born, data, born
+    def __init__(self, fid, uid, kind, data):
+        self.fid, self.uid, self.kind, self.data = fid, uid, kind, data
+        self.parent, self.name, self.last = LIMBO, "", 0
+
+
+# A record of the journal: which object, what was done, and whether the installer did it.
+Note = collections.namedtuple("Note", "fid uid op local")
 
 
 class Volume:
     """A member's files and directories, and the journal of what was done to them."""
 
-    def __init__(self):
+    def __init__(self, number):
+        self.number = number
         self.objects, self.journal, self.fid, self.usn = {}, {}, 1, 9
-        self.children = {}
+        self.children, self.by_uid = {}, {}
 
     def child(self, parent, name):
         return self.children.get((parent, fold(name)))
@@ -90,12 +101,32 @@ class Volume:
         parent = self.directory(parts[:-1])
         return parent, self.child(parent, parts[-1]), parts[-1]
 
-    def log(self, o, op):
+    def log(self, o, op, local=True):
         u = self.usn
-        self.journal[u] = (o.fid, o.born, op)
-        o.last = u
+        self.journal[u] = Note(o.fid, o.uid, op, local)
+        if local:
+            o.last = u
         self.usn += 1
         return u
+
+    def add(self, uid, kind, data):
+        o = self.objects[self.fid] = self.by_uid[uid] = Obj(self.fid, uid, kind, data)
+        self.fid += 1
+        return o
+
+    def drop(self, o):
+        del self.objects[o.fid], self.by_uid[o.uid]
+
+    def enter(self, o, parent, name):
+        o.parent, o.name = parent, name
+        self.children[parent, fold(name)] = o
+
+    def leave(self, o):
+        del self.children[o.parent, fold(o.name)]
+        o.parent, o.name = LIMBO, ""
+
+    def has_beneath(self, o):
+        return any(x.parent == o.fid for x in self.objects.values())
 
     def put(self, path, data):
         if len(data) > LARGEST_FILE:
@@ -109,9 +140,8 @@ class Volume:
         return self.log(o, "put")
 
     def new(self, parent, name, kind, data):
-        o = Obj(self.fid, parent, name, kind, self.usn, data)
-        self.objects[o.fid] = self.children[parent, fold(name)] = o
-        self.fid += 1
+        o = self.add((self.number, self.usn), kind, data)
+        self.enter(o, parent, name)
         return self.log(o, "new")
 
     def mkdir(self, path):
@@ -121,7 +151,7 @@ class Volume:
         return self.new(parent, name, "d", b"")
 
     def beneath(self, fid, top):
-        while fid != 0:
+        while fid not in (0, LIMBO):
             if fid == top:
                 return True
             fid = self.objects[fid].parent
@@ -136,34 +166,65 @@ class Volume:
             raise Refuse("refused 9 loop")
         if there is not None and there is not o:
             raise Refuse("refused 8 taken")
-        del self.children[o.parent, fold(o.name)]
-        o.parent, o.name = parent, name
-        self.children[parent, fold(name)] = o
+        self.leave(o)
+        self.enter(o, parent, name)
         return self.log(o, "move")
 
     def remove(self, path):
         _, o, _ = self.at(path)
         if o is None:
             raise Refuse("refused 5 nopath")
-        if any(x.parent == o.fid for x in self.objects.values()):
+        if self.has_beneath(o):
             raise Refuse("refused 7 notempty")
-        del self.objects[o.fid], self.children[o.parent, fold(o.name)]
+        self.leave(o)
+        self.drop(o)
         return self.log(o, "remove")
 
+    # What the installer does.
+
+    def park(self, o):
+        self.leave(o)
+        self.log(o, "park", local=False)
+
+    def erase(self, o):
+        assert o.parent is LIMBO and not self.has_beneath(o)
+        self.drop(o)
+        self.log(o, "erase", local=False)
+
+    def make(self, uid, kind, data):
+        self.log(self.add(uid, kind, data), "make", local=False)
+
+    def rewrite(self, o, data):
+        o.data = data
+        self.log(o, "rewrite", local=False)
+
+    def place(self, o, parent, name):
+        assert not self.beneath(parent, o.fid) and self.child(parent, name) is None
+        self.enter(o, parent, name)
+        self.log(o, "place", local=False)
+
+    # What is reached from the root.
+
     def path(self, o):
+        """The names from the root down to an object, or None where it isn't reached from there."""
         parts = [o.name]
-        while o.parent != 0:
+        while o.parent not in (0, LIMBO):
             o = self.objects[o.parent]
             parts.append(o.name)
-        return parts[::-1]
+        return None if o.parent is LIMBO else parts[::-1]
+
+    def tree(self):
+        found = ((self.path(o), o) for o in self.objects.values())
+        return sorted(((path, o) for path, o in found if path), key=lambda p: p[0])
 
 
 class Member:
-    """A volume, the records of files, the versions that are covered, and how far the journal is consumed."""
+    """A volume, the records of files, the contents that are staged for them, the versions that are covered, and
+    how far the journal is consumed."""
 
     def __init__(self, number, primary):
         self.number, self.primary = number, primary
-        self.volume, self.records, self.known = Volume(), {}, set()
+        self.volume, self.records, self.staged, self.known = Volume(number), {}, {}, set()
         self.consumed, self.initial = 9, True
         self.intervals = 0
 
@@ -186,19 +247,18 @@ class Member:
         n = self.consumed
         if n == self.volume.usn:
             return None
-        fid, born, op = self.volume.journal[n]
-        uid = (self.number, born)
+        fid, uid, op, local = self.volume.journal[n]
         held = self.records.get(uid)
         base = (2 if self.primary else 1) if self.initial else 3
         made = None
-        if op == "remove":
+        if local and op == "remove":
             if held and held["present"]:
                 made = dict(held, present=False)
-        else:
+        elif local:
             o = self.volume.objects.get(fid)
             if o is not None and o.last <= n:
-                parent = ROOT if o.parent == 0 else (self.number, self.volume.objects[o.parent].born)
-                made = dict(uid=uid, present=True, kind=o.kind, parent=parent, name=o.name)
+                made = dict(uid=uid, present=True, kind=o.kind, parent=self.parent_of(o), name=o.name)
+                made["sum"] = sum_of(o.data) if o.kind == "f" else None
         if made:
             made["gvsn"] = (self.number, n)
             made["clock"] = max(moment, held["clock"] + 1) if held else moment
@@ -207,14 +267,85 @@ class Member:
         self.cover([(self.number, n)])
         if made:
             self.records[uid] = made
+            self.staged.pop(uid, None)
         self.consumed += 1
         return ("update" if made else "skip", n)
 
-    def pending(self, uid):
-        """The last journal record of a file that isn't consumed."""
-        mine = [n for n, (_, born, _) in self.volume.journal.items()
-                if n >= self.consumed and (self.number, born) == uid]
-        return max(mine) if mine else None
+    def pending(self):
+        """The local journal records that aren't consumed, as their USNs and UIDs."""
+        notes = ((n, self.volume.journal[n]) for n in range(self.consumed, self.volume.usn))
+        return [(n, note.uid) for n, note in notes if note.local]
+
+    def parent_of(self, o):
+        return ROOT if o.parent == 0 else self.volume.objects[o.parent].uid
+
+    def contents(self, u):
+        """The contents that the record of a present file speaks of, staged or in its object."""
+        uid = u["uid"]
+        data = self.staged[uid] if uid in self.staged else self.volume.by_uid[uid].data
+        assert sum_of(data) == u["sum"]
+        return data
+
+    def shown(self):
+        """The records that are shown: each has the greatest key of its parent and name, and its parent is the
+        root or a shown directory."""
+        best = {}
+        for u in sorted((u for u in self.records.values() if u["present"]), key=key):
+            best[u["parent"], fold(u["name"])] = u
+        shown, directories, more = {}, {ROOT}, True
+        while more:
+            more = [u for u in best.values() if u["parent"] in directories and u["uid"] not in shown]
+            shown.update((u["uid"], u) for u in more)
+            directories.update(u["uid"] for u in more if u["kind"] == "d")
+        return shown
+
+    def next_step(self):
+        """The word of the installer's next step and the UID of its object, or the version of the journal record
+        that it skips; None where the member is drained."""
+        shown, objects = self.shown(), self.volume.by_uid
+        sums = {uid: sum_of(o.data) for uid, o in objects.items()}
+        held = [u for uid, u in self.records.items() if uid in objects]
+        files = [u for u in held if u["present"] and u["kind"] == "f"]
+
+        def stands(o):
+            u = shown.get(o.uid)
+            return u is not None and (u["parent"], u["name"]) == (self.parent_of(o), o.name)
+
+        candidates = {
+            "park": [uid for uid, o in objects.items() if o.parent is not LIMBO and not stands(o)],
+            "erase": [u["uid"] for u in held if not u["present"]],
+            "make": [uid for uid in shown if uid not in objects],
+            "rewrite": [u["uid"] for u in files if u["sum"] != sums[u["uid"]]],
+            "place": [uid for uid, o in objects.items() if o.parent is LIMBO and uid in shown],
+            "unstage": [uid for uid, data in self.staged.items() if sum_of(data) == sums.get(uid)],
+            "skip": [(self.number, n) for n in range(self.consumed, self.volume.usn)],
+        }
+        return next(((word, min(found)) for word, found in candidates.items() if found), None)
+
+    def install(self):
+        """Takes the installer's next step, and gives it; None where there is none."""
+        if pending := self.pending():
+            raise Refuse(f"refused 12 notyet {pending[0][0]}")
+        step = self.next_step()
+        if step is None:
+            return None
+        (word, uid), v = step, self.volume
+        o, u = v.by_uid.get(uid), self.records.get(uid)
+        if word == "park":
+            v.park(o)
+        elif word == "erase":
+            v.erase(o)
+        elif word == "make":
+            v.make(uid, u["kind"], self.staged[uid] if u["kind"] == "f" else b"")
+        elif word == "rewrite":
+            v.rewrite(o, self.staged[uid])
+        elif word == "place":
+            v.place(o, 0 if u["parent"] == ROOT else v.by_uid[u["parent"]].fid, u["name"])
+        elif word == "unstage":
+            del self.staged[uid]
+        else:
+            self.consume(0)
+        return step
 
 
 def key(u):
@@ -246,9 +377,12 @@ class World:
         held = m.records.get(u["uid"])
         return held is None or key(u) > key(held)
 
-    def take(self, m, u):
+    def take(self, m, n, u):
         m.cover([u["gvsn"]])
         m.records[u["uid"]] = dict(u)
+        m.staged.pop(u["uid"], None)
+        if u["present"] and u["kind"] == "f":
+            m.staged[u["uid"]] = n.contents(u)
 
     def pull(self, m, n):
         sent = set(n.known)
@@ -259,15 +393,14 @@ class World:
                 if u["present"] and u["kind"] == "f":
                     listed.append(u)
                 else:
-                    self.take(m, u)
+                    self.take(m, n, u)
                     count += 1
         for u in listed:
             if not self.better(m, u):
                 continue
-            usn = n.pending(u["uid"])
-            if usn is not None:
-                raise Refuse(f"refused 12 notyet {usn}")
-            self.take(m, n.records[u["uid"]])
+            if pending := [usn for usn, uid in n.pending() if uid == u["uid"]]:
+                raise Refuse(f"refused 12 notyet {pending[-1]}")
+            self.take(m, n, n.records[u["uid"]])
             count += 1
         m.cover(sent)
         m.initial = False
@@ -313,6 +446,14 @@ class World:
             if words[1] == words[2]:
                 raise Refuse("refused 18 self")
             return [f"pulled {self.pull(m, self.members[words[2]])}"]
+        if cmd == "install":
+            step = m.install()
+            return ["drained" if step is None else f"{step[0]} {self.word(step[1])}"]
+        if cmd == "drain":
+            count = 0
+            while m.install() is not None:
+                count += 1
+            return [f"drained {count}"]
         if cmd == "show":
             spans = [f"{self.name_of(d)}:{a}..{b}" for d, a, b in self.intervals(m.known)]
             rows = ["vector " + (" ".join(spans) or "empty")]
@@ -323,14 +464,13 @@ class World:
                 rows.append(f"{self.word(uid)} {self.word(u['gvsn'])} {u['kind']} {state} {parent} {u['name']} {u['fence']} {u['clock']} {u['created']}")
             return rows
         if cmd == "tree":
-            found = sorted(((v.path(o), o) for o in v.objects.values()), key=lambda p: p[0])
-            return [("d " + "/".join(p)) if o.kind == "d" else f"f {'/'.join(p)} {len(o.data)}" for p, o in found] or ["tree empty"]
+            return [("d " + "/".join(p)) if o.kind == "d" else f"f {'/'.join(p)} {len(o.data)}" for p, o in v.tree()] or ["tree empty"]
         if cmd == "sums":
-            files = sorted(((v.path(o), o.data) for o in v.objects.values() if o.kind == "f"), key=lambda p: p[0])
-            return [f"{sum_of(data)} {'/'.join(path)}" for path, data in files] or ["sums empty"]
+            files = [(path, o) for path, o in v.tree() if o.kind == "f"]
+            return [f"{sum_of(o.data)} {'/'.join(path)}" for path, o in files] or ["sums empty"]
         if cmd == "count":
             live = sum(u["present"] for u in m.records.values())
-            files = sum(o.kind == "f" for o in v.objects.values())
+            files = sum(o.kind == "f" for _, o in v.tree())
             return [f"records {len(m.records)} live {live} files {files} intervals {len(self.intervals(m.known))}"]
         raise AssertionError(row)
 
