@@ -1,6 +1,6 @@
 -- From the root down, directory by directory.
 use Rattle.std.proofs.Common.{◌≡◌, ◌⊎◌, ◌∙◌, ◌++◌, ◌+◌, ◌<◌, ◌≤◌, ℕ, zero, suc, inl, inr, Bool, true, false, List, [], ◌∷◌, Option, Some, None, length, replicate, slice_get, unwrap_or, refl, sym, ap, subst, arith}
-use Rattle.std.proofs.lemmas.List.{length-append}
+use Rattle.std.proofs.lemmas.List.{length-append, length-replicate}
 use Rattle.std.proofs.lemmas.Option.{slice_get_within}
 use Rattle.frs_base.specs.Options.{In}
 use Rattle.frs_base.specs.declared.version.Uid.{Uid}
@@ -40,10 +40,6 @@ in_replicate zero x y h = absurd h
 in_replicate (suc n) x y (inl e) = e
 in_replicate (suc n) x y (inr h) = in_replicate n x y h
 
-length-replicated : {X : Type 0} (n : ℕ) (x : X) → length (replicate n x) ≡ n
-length-replicated zero x = refl
-length-replicated (suc n) x = ap suc (length-replicated n x)
-
 -- a place still stands for its directory once more is found
 stands_still : (named : List Update) (queue more : List ℕ) (n m : ℕ) (up : Option ℕ) (parent : Uid) → n ≤ m → StandsFor named queue n up parent → StandsFor named (queue ++ more) m up parent
 stands_still named queue more n m None parent l s = s
@@ -55,7 +51,7 @@ hung_more : (named : List Update) (queue : List ℕ) (above : List (Option ℕ))
     → ((k : ℕ) (u : Update) → In k added → slice_get named k ≡ Some u → u.parent ≡ parent)
     → AreHung named (queue ++ added) (above ++ replicate count up)
 hung_more named queue above added count up parent hung stands longer each = record {
-  long = let a = length-append above (replicate count up) in let r = length-replicated count up in omega (arith, hung.long);
+  long = let a = length-append above (replicate count up) in let r = length-replicate count up in omega (arith, hung.long);
   each = λ n k u up' at is there. by n k u up' at is there (below_or n (length queue));
 }
   where

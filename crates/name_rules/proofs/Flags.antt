@@ -1,6 +1,6 @@
 -- Flags that go up one by one, and the places of those that are up.
 use Rattle.std.proofs.Common.{◌≡◌, ◌⊎◌, ◌++◌, ◌+◌, ◌<◌, ℕ, zero, suc, inl, inr, Bool, true, false, List, [], ◌∷◌, Option, Some, cond, length, replicate, slice_get, unwrap_or, refl, sym, ap, ◌∙◌, subst, arith}
-use Rattle.std.proofs.lemmas.List.{append-nil, append_assoc, length-append, length-set}
+use Rattle.std.proofs.lemmas.List.{append-nil, append_assoc, length-append, length-set, replicate-append-replicate}
 use Rattle.std.specs.List.{slice_set}
 use Rattle.frs_base.specs.Options.{In}
 use Rattle.name_rules.specs.Shown.{AreApart, AreFlagged, Finds, HangsMore, down}
@@ -122,17 +122,10 @@ upto (suc k) (suc n) l = elim (upto k n (omega arith)) [ inl h ↦ inl (omega ar
 
 -- ---- in one directory
 
-replicate_both : {X : Type 0} (m n : ℕ) (x : X) → replicate m x ++ replicate n x ≡ replicate (m + n) x
-replicate_both zero n x = let same : n ≡ zero + n = omega arith in ap (λ k. replicate k x) same
-replicate_both (suc m) n x = let next : suc (m + n) ≡ suc m + n = omega arith in ap (λ l. x ∷ l) (replicate_both m n x) ∙ ap (λ k. replicate k x) next
-
-pub hangs_none : (up : Option ℕ) (queue : List ℕ) (above : List (Option ℕ)) → HangsMore up queue above queue above
-hangs_none up queue above = record { count = 0; longer = omega arith; behind = sym (append-nil above) }
-
 pub hangs_both : {up : Option ℕ} {queue : List ℕ} {above : List (Option ℕ)} {queue' : List ℕ} {above' : List (Option ℕ)} {queue'' : List ℕ} {above'' : List (Option ℕ)}
     → HangsMore up queue above queue' above' → HangsMore up queue' above' queue'' above'' → HangsMore up queue above queue'' above''
 hangs_both {up} {queue} {above} a b = record {
   count = a.count + b.count;
   longer = omega (arith, a.longer, b.longer);
-  behind = b.behind ∙ ap (λ l. l ++ replicate b.count up) a.behind ∙ append_assoc above (replicate a.count up) (replicate b.count up) ∙ ap (λ l. above ++ l) (replicate_both a.count b.count up);
+  behind = b.behind ∙ ap (λ l. l ++ replicate b.count up) a.behind ∙ append_assoc above (replicate a.count up) (replicate b.count up) ∙ ap (λ l. above ++ l) (replicate-append-replicate a.count b.count up);
 }

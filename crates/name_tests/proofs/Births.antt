@@ -1,5 +1,5 @@
 -- Records that were born in order are of different files and versions, and none is of the root.
-use Rattle.std.proofs.Common.{◌≡◌, ◌⊎◌, ◌∙◌, ◌+◌, ◌++◌, ◌<◌, ℕ, zero, suc, inl, inr, List, [], ◌∷◌, Some, length, slice_get, unwrap_or, sym, ap, arith}
+use Rattle.std.proofs.Common.{◌≡◌, ◌⊎◌, ◌∙◌, ◌+◌, ◌++◌, ℕ, zero, suc, inl, inr, List, [], ◌∷◌, Some, length, slice_get, unwrap_or, sym, ap, arith}
 use Rattle.win_order.specs.declared.update.Update.{Update}
 use Rattle.name_rules.specs.Rows.{HaveNoRoot}
 use Rattle.name_rules.specs.Shown.{AreDistinct}

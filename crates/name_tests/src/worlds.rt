@@ -127,11 +127,12 @@ fn are_rows(rows: &[TreeRow], wanted: &[(&str, Kind)]) -> bool {
 /// Whether a world is as it is told.
 fn is_so(alloc: Global, world: &World) -> Result<bool, Fail> {
     let (seeds, births, rows, winner) = world;
-    let records = records_of(alloc, seeds)?;
-    let files = shown(alloc, records.as_slice())?;
-    let found = tree(alloc, records.as_slice())?;
+    let owned = records_of(alloc, seeds)?;
+    let records = owned.as_slice();
+    let files = shown(alloc, records)?;
+    let found = tree(alloc, records)?;
     let name = Name::from_units(alloc, &[0x78])?;
-    let has_name = name_winner(records.as_slice(), root(), &name);
+    let has_name = name_winner(records, root(), &name);
     Ok(are_files(&files, births) && are_rows(&found, rows) && has_name == winner.map(file))
 }
 
