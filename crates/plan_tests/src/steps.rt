@@ -23,16 +23,7 @@ fn step_text(alloc: Global, step: Step) -> Result<String, Fail> {
     }
 }
 
-/// What is done next, as a text.
-fn text_of(alloc: Global, next: Next) -> Result<String, Fail> {
-    match next {
-        Next::Drained => Ok(String::from_str(alloc, "drained")?),
-        Next::NotYet { usn } => Ok(format!(in alloc; "not yet {usn}")?),
-        Next::Do(step) => step_text(alloc, step),
-    }
-}
-
-/// What is done next, where the volume and the book are of one member.
+/// What is done next, as a text, where the volume and the book are of one member.
 fn answer(alloc: Global, volume: &Volume, book: &Book) -> Result<String, Fail>
     requires { IsNumbered volume.now.state }
 {
@@ -43,7 +34,11 @@ fn answer(alloc: Global, volume: &Volume, book: &Book) -> Result<String, Fail>
     if consumed < 9 || volume.next_usn() < consumed {
         return Err("no such USN")?;
     }
-    text_of(alloc, next_step(alloc, volume, book)?)
+    match next_step(alloc, volume, book)? {
+        Next::Drained => Ok(String::from_str(alloc, "drained")?),
+        Next::NotYet { usn } => Ok(format!(in alloc; "not yet {usn}")?),
+        Next::Do(step) => step_text(alloc, step),
+    }
 }
 
 /// The answer of the parts of a row over a volume and a book that have done nothing.
