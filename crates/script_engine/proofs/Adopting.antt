@@ -1,5 +1,5 @@
 -- An update that is adopted at a member's machine is adopted at the member.
-use Rattle.std.proofs.Common.{◌≡◌, ◌≢◌, ◌<◌, ◌≤◌, ◌^◌, ◌⊎◌, ℕ, Bool, true, false, not, cond, eqb, List, [], ◌∷◌, length, refl, sym, ap, ◌∙◌, subst, arith, inl, inr, MatchOption, Option, Some, None, Result, Ok}
+use Rattle.std.proofs.Common.{◌≡◌, ◌≢◌, ◌<◌, ◌≤◌, ◌-◌, ◌^◌, ◌⊎◌, ℕ, Bool, true, false, not, cond, eqb, List, [], ◌∷◌, length, refl, sym, ap, ◌∙◌, subst, arith, inl, inr, MatchOption, Option, Some, None, Result, Ok}
 use Rattle.std.specs.Prelude.{MatchBool, MatchResult, bit_and, find, if◌then◌else◌, option_map, unwrap_or}
 use Rattle.std.proofs.lemmas.Bool.Decides.{nat_tests}
 use Rattle.frs_base.specs.Identifiers.{content_set}
@@ -18,7 +18,7 @@ use Rattle.vol_state.specs.declared.object.Object.{Object}
 use Rattle.vol_state.specs.Conditions.{root_uid}
 use Rattle.vol_state.specs.Maps.{Stands}
 use Rattle.vol_state.specs.Places.{object_at}
-use Rattle.vol_state.specs.State.{State, object_of, uid_of}
+use Rattle.vol_state.specs.State.{object_of, uid_of}
 use Rattle.vol_state.proofs.Finding.{in_at}
 use Rattle.record_db.specs.declared.command.BookCmd.TheVariants as cmd
 use Rattle.record_db.specs.Records.{Covered, plus}
@@ -49,6 +49,7 @@ use Rattle.script_engine.specs.Sound.{IsSoundWorld}
 use Rattle.script_engine.specs.Standing.{MachineStands}
 use Rattle.script_engine.specs.Widening.{Exceeds, Fits}
 use Rattle.script_engine.proofs.Advancing.{Goes, beside_same}
+use Rattle.script_engine.proofs.Journals.{recorded_kept}
 use Rattle.script_engine.proofs.Passing.{passes_adopt}
 use Rattle.script_engine.proofs.Staging.{staged_with}
 use Rattle.script_engine.proofs.Vectors.{vector_plus}
@@ -61,7 +62,7 @@ pub record Adopts (w : World) (d : ℕ) (u : Update) (m : Machine) (reply : Repl
   pub step : Step w d (Adopt u) after
   pub reply_is : reply ≡ Adopted
   pub goes : Goes w d m new after
-  pub usns : new.volume.next_usn ≡ m.volume.next_usn
+  pub volume : new.volume ≡ m.volume
 
 -- its version would make too many intervals
 pub record IsTooWide (w : World) (d : ℕ) (u : Update) (m : Machine) (reply : Reply) (new : Machine) : Type 0 where
@@ -72,13 +73,13 @@ pub record IsTooWide (w : World) (d : ℕ) (u : Update) (m : Machine) (reply : R
 
 -- ---- it is fit
 
--- an update that was recorded, in a world in which few were
+-- an update that was recorded, in a world in which few were, with a version below the highest number
 pub record IsOurs (w : World) (u : Update) : Type 0 where
   pub here : In u w.all
   pub set : u.set ≡ content_set
   pub flags : u.flags ≡ 0
   pub few : length w.all < 2 ^ 60
-  pub low : u.gvsn.version < 2 ^ 62
+  pub low : u.gvsn.version < 2 ^ 64 - 1
 
 not_root : (u : Update) → u.set ≡ content_set → u.uid ≢ root_uid → is_of_root u ≡ false
 not_root u e n = by (is_of_root u) refl
@@ -261,9 +262,9 @@ takes w d u given m reply new sound s keeps ours sent wanted staged (inl (said, 
         stands = subst (λ x. MachineStands w.all x d new) (sym (at_same w.at d (adopted_by u (w.at d)))) (adopted_stands w d u given m new sound s keeps ours wanted staged changed);
         beside = beside_same w after d refl passes;
         ours = λ h. h;
-        counted = let same = changed.book.consumed in omega (arith, same);
+        counted = let same = changed.book.consumed in let kept = recorded_kept m new changed.volume (omega (arith, same)) in omega (arith, kept);
       };
-      usns = ap (λ (v : State). v.next_usn) changed.volume;
+      volume = changed.volume;
     })
 takes w d u given m reply new sound s keeps ours sent wanted staged (inr (count, (full, (said, same)))) = inr (record {
   count = count;

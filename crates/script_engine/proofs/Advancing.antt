@@ -1,5 +1,5 @@
 -- What an event at one member makes of its machine and of the world.
-use Rattle.std.proofs.Common.{◌≡◌, ◌≢◌, ◌<◌, ◌≤◌, ◌+◌, ℕ, false, List, ◌++◌, length, set, sym, ◌∙◌, subst, arith, Some}
+use Rattle.std.proofs.Common.{◌≡◌, ◌≢◌, ◌<◌, ◌≤◌, ◌+◌, ◌^◌, ℕ, false, List, ◌++◌, length, set, sym, ◌∙◌, subst, arith, Some}
 use Rattle.std.specs.Prelude.{slice_get}
 use Rattle.std.proofs.lemmas.List.{length-set}
 use Rattle.std.proofs.lemmas.Option.{slice_get_within}
@@ -11,7 +11,7 @@ use Rattle.world_model.specs.World.{Member, World}
 use Rattle.folder_core.specs.Machine.{Machine}
 use Rattle.script_engine.specs.Scene.{Scene, in_world}
 use Rattle.script_engine.specs.Sound.{IsSoundScene}
-use Rattle.script_engine.specs.Standing.{AreOurs, MachineStands, MachinesStand, consumed_in}
+use Rattle.script_engine.specs.Standing.{AreOurs, MachineStands, MachinesStand, recorded_in}
 use Rattle.script_engine.proofs.Pairs.{get_set_cases, sum_set}
 use Rattle.script_engine.proofs.Passing.{Passes}
 
@@ -21,7 +21,7 @@ pub record Goes (w : World) (d : ℕ) (m new : Machine) (after : World) : Type 0
   pub stands : MachineStands after.all (after.at d) d new
   pub beside : (j : ℕ) (x : Machine) → j ≢ d → MachineStands w.all (w.at j) j x → MachineStands after.all (after.at j) j x
   pub ours : AreOurs w.all → AreOurs after.all
-  pub counted : length after.all + m.book.consumed ≤ length w.all + new.book.consumed
+  pub counted : length after.all + recorded_in m ≤ length w.all + recorded_in new
 
 -- where All stays, the other members' machines stay
 pub beside_same : (w new : World) (d : ℕ) → new.all ≡ w.all → Passes d w new → (j : ℕ) (x : Machine) → j ≢ d → MachineStands w.all (w.at j) j x → MachineStands new.all (new.at j) j x
@@ -52,22 +52,17 @@ scene_on s k new h within p = record {
   unnamed = λ j nobody. let (kind, is) = h.unnamed j nobody in (kind, sym (p.others j (nobody k within)) ∙ is);
 }
 
-begun : (machines : List Machine) (s : Scene) (k : ℕ) (m : Machine) → MachinesStand machines s → slice_get machines k ≡ Some m → 9 ≤ m.book.consumed
-begun machines s k m h at =
-    let b = h.scene.world.invariant.versions.begun (database_of (k + 1)) in
-    let e = (h.each k m at).book.consumed in omega (arith, b, e)
-
 -- machines that stand for a scene go on to, each event at one of them
 pub machines_on : (machines : List Machine) (s : Scene) (k : ℕ) (m new : Machine) (after : World) → MachinesStand machines s → slice_get machines k ≡ Some m
-    → Goes s.world (database_of (k + 1)) m new after → MachinesStand (set machines k new) (in_world s after)
-machines_on machines s k m new after h at g = record {
+    → Goes s.world (database_of (k + 1)) m new after → new.volume.next_usn < 2 ^ 64 → MachinesStand (set machines k new) (in_world s after)
+machines_on machines s k m new after h at g usns = record {
   many = length-set machines k new ∙ h.many;
   each = λ j x found. get_set_cases (λ z. MachineStands after.all (after.at (database_of (j + 1))) (database_of (j + 1)) z) machines k j m new x at found (λ e. subst (λ i. MachineStands after.all (after.at (database_of (i + 1))) (database_of (i + 1)) new) (sym e) g.stands) (λ n e. g.beside (database_of (j + 1)) x (database_apart k j n) (h.each j x e));
   ours = g.ours h.ours;
-  counted = let sums = sum_set consumed_in machines k m new at in
+  usns = λ j x found. get_set_cases (λ (z : Machine). z.volume.next_usn < 2 ^ 64) machines k j m new x at found (λ e. usns) (λ n e. h.usns j x e);
+  counted = let sums = sum_set recorded_in machines k m new at in
       let more = g.counted in
-      let old = begun machines s k m h at in
       let had = h.counted in
-      omega (arith, sums, more, old, had);
+      omega (arith, sums, more, had);
   scene = scene_on s k after h.scene (let within = slice_get_within machines k m at in let many = h.many in omega (arith, within, many)) g.passes;
 }

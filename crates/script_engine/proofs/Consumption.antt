@@ -36,11 +36,12 @@ use Rattle.folder_core.specs.Books.{Changed, Takes}
 use Rattle.folder_core.specs.Consume.{AnswersConsume, AnswersRecord, is_at_end, made_at}
 use Rattle.folder_core.specs.Sound.{IsSound as IsSoundMachine}
 use Rattle.script_engine.specs.Sound.{IsSoundWorld}
-use Rattle.script_engine.specs.Standing.{AreOurs, MachineStands}
+use Rattle.script_engine.specs.Standing.{AreOurs, MachineStands, recorded_in}
 use Rattle.script_engine.specs.Consuming.{IsAtEnd, widened}
 use Rattle.script_engine.specs.Widening.{Exceeds, Fits}
 use Rattle.script_engine.proofs.Staging.{staged_dropped}
 use Rattle.script_engine.proofs.Advancing.{Goes, machine_beside}
+use Rattle.script_engine.proofs.Journals.{recorded_kept, recorded_one}
 use Rattle.script_engine.proofs.Passing.{Passes, passes_consume}
 use Rattle.script_engine.proofs.Vectors.{vector_plus}
 use Rattle.script_engine.proofs.Widths.{covered_is, exceeds_by, fits_by}
@@ -63,7 +64,8 @@ pub record Consumes (w : World) (d moment : ℕ) (m : Machine) (reply : Reply) (
   pub fits : Fits (widened w d)
   pub reply_is : reply ≡ reply_of d (w.at d).consumed made
   pub goes : Goes w d m new (consumes w d made)
-  pub usns : new.volume.next_usn ≡ m.volume.next_usn
+  pub volume : new.volume ≡ m.volume
+  pub next : new.book.consumed ≡ m.book.consumed + 1
 
 -- its version would make too many intervals
 pub record IsTooFull (w : World) (d moment : ℕ) (m : Machine) (reply : Reply) (new : Machine) : Type 0 where
@@ -185,38 +187,44 @@ goes_by w d moment m new made early sound ours s keeps records changed = record 
       (machine_beside w.all (option_to_list made) (w.at j) j x (made_fresh w d moment made sound records j) stands);
   ours = all_ours w d moment made records;
   counted = let more = length-append w.all (option_to_list made) in
-      let one = one_more made in
-      let after = changed.book.consumed in omega (arith, more, one, after);
+      let one = one_more made records in omega (arith, more, one);
 }
   where
     passes : Passes d w (consumes w d made)
     passes = passes_consume w d moment made (consumes w d made) early sound records refl
 
-    one_more : (made : Option Update) → length (option_to_list made) ≤ 1
-    one_more None = omega arith
-    one_more (Some u) = omega arith
+    next : new.book.consumed ≡ m.book.consumed + 1
+    next = changed.book.consumed
+
+    one_more : (made : Option Update) → Records w d moment made → length (option_to_list made) + recorded_in m ≤ recorded_in new
+    one_more None r = let kept = recorded_kept m new changed.volume (omega (arith, next)) in omega (arith, kept)
+    one_more (Some u) (r, held, at, is_held, is) =
+        let (local, cases) = made_by d (w.at d).volume (base_fence (w.at d).phase (w.at d).kind) (w.at d).consumed moment r.local (is_deletion r) held ((w.at d).volume.at r.fid) u is in
+        let there : record_at m.volume.journal m.book.consumed ≡ Some r = sym (s.volume.entries m.book.consumed) ∙ ap (w.at d).volume.entry s.book.consumed ∙ at in
+        let one = recorded_one m new r changed.volume next there local in omega (arith, one)
 
 -- ---- the answer
 
--- what bounds the numbers of a member
-abbrev pub AreBounded : World → ℕ → ℕ → Type 0
-AreBounded w d moment = (moment < 2 ^ 61) × (length w.all < 2 ^ 60) × ((w.at d).consumed < 2 ^ 62)
+-- what bounds the clocks of a world
+abbrev pub AreBounded : World → ℕ → Type 0
+AreBounded w moment = (moment < 2 ^ 61) × (length w.all < 2 ^ 60)
 
 widths : (w : World) (d : ℕ) (m : Machine) → MachineStands w.all (w.at d) d m → plus (covers m.book.vector) (own_version m.book m.book.consumed) ≡ widened w d
 widths w d m s = λ i. plus (covered_is (w.at d).known m.book.vector s.book.vector i) (record { db = s.own i; version = s.book.consumed i })
 
-book_takes : (w : World) (d moment : ℕ) (m : Machine) (reply : Reply) (new : Machine) (made : Option Update) → AreBounded w d moment → IsSoundWorld w → AreOurs w.all → MachineStands w.all (w.at d) d m → IsSoundMachine new
+book_takes : (w : World) (d moment : ℕ) (m : Machine) (reply : Reply) (new : Machine) (made : Option Update) → AreBounded w moment → IsSoundWorld w → AreOurs w.all → MachineStands w.all (w.at d) d m → IsSoundMachine new
     → Records w d moment made → Takes (RecordLocal m.book.consumed made) (reply_of d (w.at d).consumed made) m reply new
     → Consumes w d moment m reply new ⊎ IsTooFull w d moment m reply new
-book_takes w d moment m reply new made (early, few, low) sound ours s keeps records (inl (said, changed)) = inl (record {
+book_takes w d moment m reply new made (early, few) sound ours s keeps records (inl (said, changed)) = inl (record {
   made = made;
   records = records;
   fits = fits_by _ (widened w d) new.book.vector (widths w d m s) changed.book.vector changed.within;
   reply_is = said;
   goes = goes_by w d moment m new made early sound ours s keeps records changed;
-  usns = ap (λ (v : State). v.next_usn) changed.volume;
+  volume = changed.volume;
+  next = changed.book.consumed;
 })
-book_takes w d moment m reply new made (early, few, low) sound ours s keeps records (inr (count, (full, (said, same)))) = inr (record {
+book_takes w d moment m reply new made (early, few) sound ours s keeps records (inr (count, (full, (said, same)))) = inr (record {
   made = made;
   count = count;
   records = records;
@@ -226,8 +234,8 @@ book_takes w d moment m reply new made (early, few, low) sound ours s keeps reco
 })
 
 -- clocks are small, so that none is skewed
-unskewed : (w : World) (d moment : ℕ) (u : Update) → AreBounded w d moment → IsSoundWorld w → Records w d moment (Some u) → leb (2 ^ 62) u.clock ≡ false
-unskewed w d moment u (early, few, low) sound records =
+unskewed : (w : World) (d moment : ℕ) (u : Update) → AreBounded w moment → IsSoundWorld w → Records w d moment (Some u) → leb (2 ^ 62) u.clock ≡ false
+unskewed w d moment u (early, few) sound records =
     let passes = passes_consume w d moment (Some u) (consumes w d (Some u)) early sound records refl in
     let clock = passes.sound.invariant.clocks.clocks u (in_after u w.all (u ∷ []) (inl refl)) in
     let more = length-append w.all (u ∷ []) in
@@ -237,7 +245,7 @@ unskewed w d moment u (early, few, low) sound records =
     by false e l = refl
     by true e l = absurd (grind (arith, nat_tests))
 
-record_answers : (w : World) (d moment : ℕ) (m : Machine) (reply : Reply) (new : Machine) (made : Option Update) → AreBounded w d moment → IsSoundWorld w → AreOurs w.all → MachineStands w.all (w.at d) d m → IsSoundMachine new
+record_answers : (w : World) (d moment : ℕ) (m : Machine) (reply : Reply) (new : Machine) (made : Option Update) → AreBounded w moment → IsSoundWorld w → AreOurs w.all → MachineStands w.all (w.at d) d m → IsSoundMachine new
     → Records w d moment made → AnswersRecord made m reply new → Consumes w d moment m reply new ⊎ IsTooFull w d moment m reply new
 record_answers w d moment m reply new None bounded sound ours s keeps records answers =
     book_takes w d moment m reply new None bounded sound ours s keeps records (subst (λ n. Takes (RecordLocal m.book.consumed None) (Skipped n) m reply new) s.book.consumed answers)
@@ -264,7 +272,7 @@ made_is w d moment m r s at =
     )
 
 -- nothing is left, or the next record is consumed, or its version would make too many intervals
-pub consumes_at : (w : World) (d moment : ℕ) (m : Machine) (reply : Reply) (new : Machine) → AreBounded w d moment → IsSoundWorld w → AreOurs w.all → MachineStands w.all (w.at d) d m → IsSoundMachine new
+pub consumes_at : (w : World) (d moment : ℕ) (m : Machine) (reply : Reply) (new : Machine) → AreBounded w moment → IsSoundWorld w → AreOurs w.all → MachineStands w.all (w.at d) d m → IsSoundMachine new
     → AnswersConsume moment m reply new → Ends w d m reply new ⊎ (Consumes w d moment m reply new ⊎ IsTooFull w d moment m reply new)
 consumes_at w d moment m reply new bounded sound ours s keeps answers = by (is_at_end m) refl answers
   where

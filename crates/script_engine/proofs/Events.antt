@@ -1,13 +1,14 @@
 -- What the calls of an engine do to the scene that it stands for, one event each.
 use Rattle.std.proofs.Common.{◌≡◌, ◌<◌, ◌≤◌, ◌+◌, ◌^◌, ◌⊎◌, ℕ, List, [], length, set, refl, sym, ap, ◌∙◌, subst, arith, inl, inr, Option, Some, None, Result, Ok, Err}
 use Rattle.std.specs.Prelude.{IfOk, map, slice_get, sum_by}
+use Rattle.std.proofs.lemmas.List.Sums.{sum_by-le-sum_by}
 use Rattle.frs_base.specs.Identifiers.{database_of}
 use Rattle.win_order.specs.declared.update.Update.{Update}
 use Rattle.vol_state.specs.declared.operation.LocalOp.{LocalOp}
 use Rattle.vol_state.specs.declared.operation.Refused.{Refused}
-use Rattle.world_model.specs.World.{Member, World}
-use Rattle.world_model.specs.Events.{Records, consumed_by, consumes}
-use Rattle.world_model.proofs.Changing.{at_same}
+use Rattle.vol_state.specs.State.{State}
+use Rattle.world_model.specs.World.{World}
+use Rattle.world_model.specs.Events.{Records, consumes}
 use Rattle.folder_core.specs.declared.event.Event.{Event}
 use Rattle.folder_core.specs.declared.event.Event.TheVariants as event
 use Rattle.folder_core.specs.declared.reply.Reply.{Reply}
@@ -23,10 +24,11 @@ use Rattle.script_engine.specs.Named.{AreNamed}
 use Rattle.script_engine.specs.Scene.{Scene, fresh_scene, in_world}
 use Rattle.script_engine.specs.Consuming.{widened}
 use Rattle.script_engine.specs.Widening.{Fits}
-use Rattle.script_engine.specs.Standing.{HaveRoom, MachinesStand, consumed_in, made_in}
-use Rattle.script_engine.specs.Engines.{Answered, ConsumedNext, Operated, Stands, consumed_by_all, count_of, machines_of, made_by_all}
+use Rattle.script_engine.specs.Standing.{HaveRoom, MachinesStand, local_in, recorded_in, unconsumed_in}
+use Rattle.script_engine.specs.Engines.{Answered, ConsumedNext, Operated, Stands, count_of, local_by_all, machines_of, unconsumed_by_all}
 use Rattle.script_engine.specs.Replies.{consumed_of, usn_of}
-use Rattle.script_engine.proofs.Pairs.{get_map, in_sum, map_set, set_same, sum_less, sum_set}
+use Rattle.script_engine.proofs.Journals.{local_same, recorded_less}
+use Rattle.script_engine.proofs.Pairs.{get_map, map_set, set_same, sum_set}
 use Rattle.script_engine.proofs.Advancing.{Goes, machines_on}
 use Rattle.script_engine.proofs.Scenes.{fresh_scene_sound}
 use Rattle.script_engine.proofs.Operating.{Done, Stays, operates}
@@ -36,11 +38,11 @@ use Rattle.script_engine.proofs.Consumption.{AreBounded, Consumes, Ends, IsTooFu
 
 -- an engine stands for what its member went on to
 pub stands_on : (old new : Engine) (s : Scene) (at : ℕ) (m next : Machine) (after : World) → Stands old s → new.names ≡ old.names → slice_get (machines_of old) at ≡ Some m → machines_of new ≡ set (machines_of old) at next
-    → Goes s.world (database_of (at + 1)) m next after → Stands new (in_world s after)
-stands_on old new s at m next after h names found machines g = record {
+    → Goes s.world (database_of (at + 1)) m next after → next.volume.next_usn < 2 ^ 64 → Stands new (in_world s after)
+stands_on old new s at m next after h names found machines g usns = record {
   names = ap (λ x. x.items) names ∙ h.names;
   formed = subst (λ x. AreNamed x.items) (sym names) h.formed;
-  machines = subst (λ ms. MachinesStand ms (in_world s after)) (sym machines) (machines_on (machines_of old) s at m next after h.machines found g);
+  machines = subst (λ ms. MachinesStand ms (in_world s after)) (sym machines) (machines_on (machines_of old) s at m next after h.machines found g usns);
 }
 
 -- where the machine stays, it stands for the same
@@ -52,31 +54,20 @@ stands_still old new s at m next h names found machines same = record {
   machines = subst (λ ms. MachinesStand ms s) (sym (machines ∙ ap (set (machines_of old) at) same ∙ set_same (machines_of old) at m found)) h.machines;
 }
 
--- how many journal records there are after one machine was set
-pub made_after : (old new : Engine) (at : ℕ) (m next : Machine) → slice_get (machines_of old) at ≡ Some m → machines_of new ≡ set (machines_of old) at next → made_by_all new + made_in m ≡ made_by_all old + made_in next
-made_after old new at m next found machines = ap (λ ms. sum_by made_in ms + made_in m) machines ∙ sum_set made_in (machines_of old) at m next found
+-- how many local records there are after one machine was set
+pub local_after : (old new : Engine) (at : ℕ) (m next : Machine) → slice_get (machines_of old) at ≡ Some m → machines_of new ≡ set (machines_of old) at next → local_by_all new + local_in m ≡ local_by_all old + local_in next
+local_after old new at m next found machines = ap (λ ms. sum_by local_in ms + local_in m) machines ∙ sum_set local_in (machines_of old) at m next found
 
-pub consumed_after : (old new : Engine) (at : ℕ) (m next : Machine) → slice_get (machines_of old) at ≡ Some m → machines_of new ≡ set (machines_of old) at next → consumed_by_all new + consumed_in m ≡ consumed_by_all old + consumed_in next
-consumed_after old new at m next found machines = ap (λ ms. sum_by consumed_in ms + consumed_in m) machines ∙ sum_set consumed_in (machines_of old) at m next found
+-- how many journal records aren't consumed
+unconsumed_after : (old new : Engine) (at : ℕ) (m next : Machine) → slice_get (machines_of old) at ≡ Some m → machines_of new ≡ set (machines_of old) at next
+    → unconsumed_by_all new + unconsumed_in m ≡ unconsumed_by_all old + unconsumed_in next
+unconsumed_after old new at m next found machines = ap (λ ms. sum_by unconsumed_in ms + unconsumed_in m) machines ∙ sum_set unconsumed_in (machines_of old) at m next found
 
 -- ---- bounds
 
--- more isn't consumed than was made
-pub consumed_less : (machines : List Machine) (s : Scene) → MachinesStand machines s → sum_by consumed_in machines ≤ sum_by made_in machines
-consumed_less machines s h = sum_less consumed_in made_in machines (λ k m at. let most = (h.each k m at).sound.order.consumed in omega (arith, most))
-
--- so few updates were recorded
+-- no more updates were recorded than there are local records
 pub few_recorded : (machines : List Machine) (s : Scene) → MachinesStand machines s → HaveRoom machines → length s.world.all < 2 ^ 60
-few_recorded machines s h room = let less = consumed_less machines s h in let counted = h.counted in omega (arith, less, counted, room)
-
--- a member's numbers are small
-pub small_at : (machines : List Machine) (s : Scene) (k : ℕ) (m : Machine) → MachinesStand machines s → HaveRoom machines → slice_get machines k ≡ Some m → (s.world.at (database_of (k + 1))).consumed < 2 ^ 62
-small_at machines s k m h room at =
-    let stands = h.each k m at in
-    let now = stands.book.consumed in
-    let most = stands.sound.order.consumed in
-    let part = in_sum made_in machines k m at in
-    omega (arith, now, most, part, room)
+few_recorded machines s h room = let less = sum_by-le-sum_by recorded_in local_in machines recorded_less in let counted = h.counted in omega (arith, less, counted, room)
 
 -- ---- a local operation
 
@@ -87,7 +78,7 @@ pub record Operates (at : ℕ) (operation : LocalOp) (reply : Reply) (old new : 
   pub after : World
   pub operated : Operated s.world (database_of (at + 1)) operation outcome after
   pub stands : Stands new (in_world s after)
-  pub made : made_by_all new ≤ made_by_all old + 1
+  pub made : local_by_all new ≤ local_by_all old + 1
 
 pub operated_on : (at : ℕ) (operation : LocalOp) (reply : Reply) (old new : Engine) (s : Scene) → Stands old s → new.names ≡ old.names → Answered at (event.Local operation) reply old new → Operates at operation reply old new s
 operated_on at operation reply old new s h names a =
@@ -100,8 +91,8 @@ operated_on at operation reply old new s h names a =
       reads = ap usn_of done.reply_is;
       after = done.after;
       operated = (done.cmd, done.resolves, done.step, refl);
-      stands = stands_on old new s at a.before a.after done.after h names a.found a.machines done.goes;
-      made = let sums = made_after old new at a.before a.after a.found a.machines in let one = done.usns in omega (arith, sums, one);
+      stands = stands_on old new s at a.before a.after done.after h names a.found a.machines done.goes a.usns;
+      made = let sums = local_after old new at a.before a.after a.found a.machines in let one = done.local in omega (arith, sums, one);
     }
     by (inr stays) = record {
       outcome = Err stays.why;
@@ -109,7 +100,7 @@ operated_on at operation reply old new s h names a =
       after = s.world;
       operated = (stays.resolves, refl);
       stands = stands_still old new s at a.before a.after h names a.found a.machines stays.same;
-      made = let sums = made_after old new at a.before a.after a.found a.machines in let same = ap (λ (x : Machine). x.volume.next_usn) stays.same in omega (arith, sums, same);
+      made = let sums = local_after old new at a.before a.after a.found a.machines in let same = ap local_in stays.same in omega (arith, sums, same);
     }
 
 -- ---- a journal record consumed
@@ -120,59 +111,50 @@ pub record ConsumesAt (at moment : ℕ) (reply : Reply) (old new : Engine) (s : 
   pub after : World
   pub consumed : ConsumedNext s.world (database_of (at + 1)) moment outcome after
   pub stands : Stands new (in_world s after)
-  pub made : made_by_all new ≡ made_by_all old
-  pub more : consumed_by_all new ≡ consumed_by_all old + count_of outcome
+  pub made : local_by_all new ≡ local_by_all old
+  pub fewer : unconsumed_by_all new + count_of outcome ≡ unconsumed_by_all old
 
-pub consumed_on : (at moment : ℕ) (reply : Reply) (old new : Engine) (s : Scene) → moment < 2 ^ 61 → made_by_all old < 2 ^ 60 → Stands old s → new.names ≡ old.names → Answered at (event.Consume moment) reply old new → ConsumesAt at moment reply old new s
+pub consumed_on : (at moment : ℕ) (reply : Reply) (old new : Engine) (s : Scene) → moment < 2 ^ 61 → local_by_all old < 2 ^ 60 → Stands old s → new.names ≡ old.names → Answered at (event.Consume moment) reply old new → ConsumesAt at moment reply old new s
 consumed_on at moment reply old new s early room h names a =
     by (consumes_at s.world (database_of (at + 1)) moment a.before reply a.after bounded h.machines.scene.world h.machines.ours (h.machines.each at a.before a.found) a.sound a.answers)
   where
-    bounded : AreBounded s.world (database_of (at + 1)) moment
-    bounded = (early, few_recorded (machines_of old) s h.machines room, small_at (machines_of old) s at a.before h.machines room a.found)
+    bounded : AreBounded s.world moment
+    bounded = (early, few_recorded (machines_of old) s h.machines room)
 
-    sums : made_by_all new + made_in a.before ≡ made_by_all old + made_in a.after
-    sums = made_after old new at a.before a.after a.found a.machines
+    same_local : a.after.volume ≡ a.before.volume → local_by_all new ≡ local_by_all old
+    same_local e = let sums = local_after old new at a.before a.after a.found a.machines in let same = local_same a.before a.after e in omega (arith, sums, same)
 
-    counts : consumed_by_all new + consumed_in a.before ≡ consumed_by_all old + consumed_in a.after
-    counts = consumed_after old new at a.before a.after a.found a.machines
+    counts : unconsumed_by_all new + unconsumed_in a.before ≡ unconsumed_by_all old + unconsumed_in a.after
+    counts = unconsumed_after old new at a.before a.after a.found a.machines
 
-    same_made : a.after ≡ a.before → made_by_all new ≡ made_by_all old
-    same_made e = let same = ap made_in e in omega (arith, sums, same)
+    no_fewer : a.after ≡ a.before → unconsumed_by_all new + 0 ≡ unconsumed_by_all old
+    no_fewer e = let same = ap unconsumed_in e in omega (arith, counts, same)
 
-    same_consumed : a.after ≡ a.before → consumed_by_all new ≡ consumed_by_all old + 0
-    same_consumed e = let same = ap consumed_in e in omega (arith, counts, same)
-
-    now : a.before.book.consumed ≡ (s.world.at (database_of (at + 1))).consumed
-    now = (h.machines.each at a.before a.found).book.consumed
-
-    begun : 9 ≤ (s.world.at (database_of (at + 1))).consumed
-    begun = h.machines.scene.world.invariant.versions.begun (database_of (at + 1))
-
-    one_more : (made : Option Update) → Goes s.world (database_of (at + 1)) a.before a.after (consumes s.world (database_of (at + 1)) made) → consumed_by_all new ≡ consumed_by_all old + 1
-    one_more made g =
-        let later = g.stands.book.consumed in
-        let next : ((consumes s.world (database_of (at + 1)) made).at (database_of (at + 1))).consumed ≡ (s.world.at (database_of (at + 1))).consumed + 1 = ap (λ (x : Member). x.consumed) (at_same s.world.at (database_of (at + 1)) (consumed_by (database_of (at + 1)) made (s.world.at (database_of (at + 1))))) in
-        omega (arith, counts, now, begun, later, next)
+    one_fewer : a.after.volume ≡ a.before.volume → a.after.book.consumed ≡ a.before.book.consumed + 1 → unconsumed_by_all new + 1 ≡ unconsumed_by_all old
+    one_fewer same next =
+        let usns = ap (λ (v : State). v.next_usn) same in
+        let most = a.sound.order.consumed in
+        omega (arith, counts, usns, next, most)
 
     some : (made : Option Update) → Records s.world (database_of (at + 1)) moment made → Fits (widened s.world (database_of (at + 1))) → reply ≡ reply_of (database_of (at + 1)) (s.world.at (database_of (at + 1))).consumed made
-        → Goes s.world (database_of (at + 1)) a.before a.after (consumes s.world (database_of (at + 1)) made) → a.after.volume.next_usn ≡ a.before.volume.next_usn → ConsumesAt at moment reply old new s
-    some None records fits is g same = record {
+        → Goes s.world (database_of (at + 1)) a.before a.after (consumes s.world (database_of (at + 1)) made) → a.after.volume ≡ a.before.volume → a.after.book.consumed ≡ a.before.book.consumed + 1 → ConsumesAt at moment reply old new s
+    some None records fits is g same next = record {
       outcome = Ok (Some (consumed.Skipped (s.world.at (database_of (at + 1))).consumed));
       reads = ap consumed_of is;
       after = consumes s.world (database_of (at + 1)) None;
       consumed = (refl, fits, records, refl);
-      stands = stands_on old new s at a.before a.after _ h names a.found a.machines g;
-      made = omega (arith, sums, same);
-      more = one_more None g;
+      stands = stands_on old new s at a.before a.after _ h names a.found a.machines g a.usns;
+      made = same_local same;
+      fewer = one_fewer same next;
     }
-    some (Some u) records fits is g same = record {
+    some (Some u) records fits is g same next = record {
       outcome = Ok (Some (consumed.Made (s.world.at (database_of (at + 1))).consumed));
       reads = ap consumed_of is;
       after = consumes s.world (database_of (at + 1)) (Some u);
       consumed = (refl, fits, u, records, refl);
-      stands = stands_on old new s at a.before a.after _ h names a.found a.machines g;
-      made = omega (arith, sums, same);
-      more = one_more (Some u) g;
+      stands = stands_on old new s at a.before a.after _ h names a.found a.machines g a.usns;
+      made = same_local same;
+      fewer = one_fewer same next;
     }
 
     by : Ends s.world (database_of (at + 1)) a.before reply a.after
@@ -183,32 +165,33 @@ consumed_on at moment reply old new s early room h names a =
       after = s.world;
       consumed = (ends.end, refl);
       stands = stands_still old new s at a.before a.after h names a.found a.machines ends.same;
-      made = same_made ends.same;
-      more = same_consumed ends.same;
+      made = same_local (ap (λ (x : Machine). x.volume) ends.same);
+      fewer = no_fewer ends.same;
     }
-    by (inr (inl c)) = some c.made c.records c.fits c.reply_is c.goes c.usns
+    by (inr (inl c)) = some c.made c.records c.fits c.reply_is c.goes c.volume c.next
     by (inr (inr full)) = record {
       outcome = Err (VectorFull full.count);
       reads = ap consumed_of full.reply_is;
       after = s.world;
       consumed = (full.count, (full.made, full.records, full.exceeds), refl, refl);
       stands = stands_still old new s at a.before a.after h names a.found a.machines full.same;
-      made = same_made full.same;
-      more = same_consumed full.same;
+      made = same_local (ap (λ (x : Machine). x.volume) full.same);
+      fewer = no_fewer full.same;
     }
 
 -- ---- an event
 
 -- what a folder answers, its engine answers
 pub answered_by : (caller at : ℕ) (e : Event) (reply : Reply) (old new : Engine) (before after : Seen) → slice_get old.folders.items at ≡ Some before
-    → new.folders.items ≡ set old.folders.items at after → Does caller e reply before after → IsSound after.machine → Answered at e reply old new
-answered_by caller at e reply old new before after found items (entry, history, enters) sound = record {
+    → new.folders.items ≡ set old.folders.items at after → Does caller e reply before after → IsSound after.machine → after.machine.volume.next_usn < 2 ^ 64 → Answered at e reply old new
+answered_by caller at e reply old new before after found items (entry, history, enters) sound usns = record {
   place = length before.history + 1;
   before = before.machine;
   after = after.machine;
   found = get_map (λ (f : Seen). f.machine) old.folders.items at before found;
   answers = enters.answers;
   sound = sound;
+  usns = usns;
   machines = ap (map (λ (f : Seen). f.machine)) items ∙ map_set (λ (f : Seen). f.machine) old.folders.items at after;
 }
 
@@ -227,6 +210,7 @@ fresh_stands e names folders = record {
     many = refl;
     each = λ k m at. absurd (cc);
     ours = λ u here. absurd here;
+    usns = λ k m at. absurd (cc);
     counted = omega arith;
     scene = fresh_scene_sound;
   });

@@ -7,7 +7,6 @@ use Rattle.version_vector.specs.declared.interval.Interval.{Interval}
 use Rattle.win_order.specs.Order.{key_lt, key_of}
 use Rattle.win_order.specs.declared.update.Update.{Update}
 use Rattle.vol_state.specs.Maps.{Stands}
-use Rattle.vol_state.specs.State.{State}
 use Rattle.record_db.specs.declared.command.BookCmd.TheVariants as cmd
 use Rattle.record_db.specs.Records.{IsHeldOrBeaten, Versions, both}
 use Rattle.record_db.specs.Steps.{own_version}
@@ -30,6 +29,7 @@ use Rattle.script_engine.specs.Sound.{IsSoundWorld}
 use Rattle.script_engine.specs.Standing.{MachineStands}
 use Rattle.script_engine.specs.Widening.{Exceeds, Fits, IsVectorOf}
 use Rattle.script_engine.proofs.Advancing.{Goes, beside_same}
+use Rattle.script_engine.proofs.Journals.{recorded_kept}
 use Rattle.script_engine.proofs.Passing.{passes_finish}
 use Rattle.script_engine.proofs.Vectors.{vector_both}
 use Rattle.script_engine.proofs.Widths.{covered_is, exceeds_by, fits_by}
@@ -41,7 +41,7 @@ pub record Finishes (w : World) (d : ℕ) (s : Versions) (m : Machine) (reply : 
   pub step : Step w d (Finish s) after
   pub reply_is : reply ≡ Finished
   pub goes : Goes w d m new after
-  pub usns : new.volume.next_usn ≡ m.volume.next_usn
+  pub volume : new.volume ≡ m.volume
 
 -- the vector would have too many intervals
 pub record IsTooWide (w : World) (d : ℕ) (s : Versions) (m : Machine) (reply : Reply) (new : Machine) : Type 0 where
@@ -110,9 +110,9 @@ takes w d s sent seen m reply new sound stands keeps may (inl (said, changed)) =
         stands = subst (λ x. MachineStands w.all x d new) (sym (at_same w.at d (finished_by s (w.at d)))) (finished_stands w d s sent seen m new sound stands keeps may changed);
         beside = beside_same w after d refl passes;
         ours = λ h. h;
-        counted = let same = changed.book.consumed in omega (arith, same);
+        counted = let same = changed.book.consumed in let kept = recorded_kept m new changed.volume (omega (arith, same)) in omega (arith, kept);
       };
-      usns = ap (λ (v : State). v.next_usn) changed.volume;
+      volume = changed.volume;
     })
 takes w d s sent seen m reply new sound stands keeps may (inr (count, (full, (said, same)))) = inr (record {
   count = count;

@@ -11,6 +11,7 @@ pub mod Passing
 pub mod Scenes
 pub mod Pairs
 pub mod Going
+mod Journals
 pub mod Advancing
 pub mod Staging
 pub mod Operating

@@ -1,11 +1,10 @@
 -- A local operation at a member's machine is one at the member.
 use Rattle.std.proofs.Common.{◌≡◌, ◌+◌, ◌⊎◌, ℕ, refl, sym, ap, ◌∙◌, subst, arith, inl, inr, MatchResult, Result, Ok, Err}
 use Rattle.vol_state.specs.declared.command.VolCmd.{VolCmd}
-use Rattle.vol_state.specs.declared.command.VolCmd.TheVariants.{PutNew, PutOver, Mkdir, Move, Remove, Park, Erase, Make, Rewrite, Place}
 use Rattle.vol_state.specs.declared.operation.LocalOp.{LocalOp}
 use Rattle.vol_state.specs.declared.operation.Refused.{Refused}
 use Rattle.vol_state.specs.Effects.{effect}
-use Rattle.vol_state.specs.Maps.{Maps, Stands, write}
+use Rattle.vol_state.specs.Maps.{Stands, write}
 use Rattle.vol_state.specs.Paths.{resolve}
 use Rattle.vol_state.specs.Tables.{IsLocal}
 use Rattle.vol_state.specs.Ways.{Resolves}
@@ -24,8 +23,9 @@ use Rattle.folder_core.specs.Machine.{Machine, Refuses as IsRefusedBy}
 use Rattle.folder_core.specs.Local.{AnswersLocal, Operates}
 use Rattle.folder_core.specs.Sound.{IsSound as IsSoundMachine}
 use Rattle.script_engine.specs.Sound.{IsSoundWorld}
-use Rattle.script_engine.specs.Standing.{MachineStands}
+use Rattle.script_engine.specs.Standing.{MachineStands, local_in}
 use Rattle.script_engine.proofs.Advancing.{Goes, beside_same}
+use Rattle.script_engine.proofs.Journals.{local_one, recorded_still}
 use Rattle.script_engine.proofs.Passing.{passes_local}
 
 -- the command is done
@@ -36,7 +36,7 @@ pub record Done (w : World) (d : ℕ) (op : LocalOp) (m : Machine) (reply : Repl
   pub step : Step w d (LocalEvent cmd) after
   pub reply_is : reply ≡ Usn (w.at d).volume.next_usn
   pub goes : Goes w d m new after
-  pub usns : new.volume.next_usn ≡ m.volume.next_usn + 1
+  pub local : local_in new ≡ local_in m + 1
 
 -- it is refused
 pub record Stays (w : World) (d : ℕ) (op : LocalOp) (m : Machine) (reply : Reply) (new : Machine) : Type 0 where
@@ -65,19 +65,6 @@ operated_stands w d cmd m new s keeps may is =
       volume = subst (λ v. Stands v (write d cmd x.volume)) (sym (ap (λ (y : Machine). y.volume) is)) own;
     }
 
--- each command writes one journal record
-write_next : (own : ℕ) (cmd : VolCmd) (m : Maps) → (write own cmd m).next_usn ≡ m.next_usn + 1
-write_next own (PutNew parent name bytes) m = refl
-write_next own (PutOver fid bytes) m = refl
-write_next own (Mkdir parent name) m = refl
-write_next own (Move fid parent name) m = refl
-write_next own (Remove fid) m = refl
-write_next own (Park fid) m = refl
-write_next own (Erase fid) m = refl
-write_next own (Make uid kind bytes) m = refl
-write_next own (Rewrite fid bytes) m = refl
-write_next own (Place fid parent name) m = refl
-
 done : (w : World) (d : ℕ) (op : LocalOp) (cmd : VolCmd) (m : Machine) (reply : Reply) (new : Machine) → IsSoundWorld w → MachineStands w.all (w.at d) d m → IsSoundMachine new
     → Resolves (w.at d).volume op (Ok cmd) → Operates cmd m reply new → Done w d op m reply new
 done w d op cmd m reply new sound s keeps resolves (said, is) =
@@ -95,9 +82,9 @@ done w d op cmd m reply new sound s keeps resolves (said, is) =
         stands = subst (λ x. MachineStands w.all x d new) (sym (at_same w.at d (operated d cmd (w.at d)))) (operated_stands w d cmd m new s keeps may is);
         beside = beside_same w after d refl passes;
         ours = λ h. h;
-        counted = let same = ap (λ (y : Machine). y.book.consumed) is in omega (arith, same);
+        counted = let still = recorded_still cmd m new (w.at d).volume may is in omega (arith, still);
       };
-      usns = sym (operated_stands w d cmd m new s keeps may is).volume.next_usn ∙ write_next d cmd (w.at d).volume ∙ ap (λ n. n + 1) s.volume.next_usn;
+      local = local_one cmd m new (w.at d).volume may is;
     }
 
 -- it is done, or refused

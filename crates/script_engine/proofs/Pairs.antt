@@ -1,5 +1,5 @@
 -- What stands at the places of a list.
-use Rattle.std.proofs.Common.{◌≡◌, ◌≢◌, ◌<◌, ◌≤◌, ◌+◌, ℕ, zero, suc, List, [], ◌∷◌, ◌++◌, length, get_or, map, set, refl, sym, ap, subst, Some, arith}
+use Rattle.std.proofs.Common.{◌≡◌, ◌≢◌, ◌<◌, ◌+◌, ℕ, zero, suc, List, [], ◌∷◌, ◌++◌, length, get_or, map, set, refl, sym, ap, subst, Some, arith}
 use Rattle.std.specs.Prelude.{insert, remove, slice_get, sum_by}
 use Rattle.std.proofs.lemmas.List.Sums.{sum_by-cons}
 
@@ -82,14 +82,3 @@ sum_set f (a ∷ xs) zero x y e =
     let same : f a ≡ f x = let is : a ≡ x = cc in ap f is in
     omega (arith, same, sum_by-cons f y xs, sum_by-cons f a xs)
 sum_set f (a ∷ xs) (suc k) x y e = omega (arith, sum_set f xs k x y e, sum_by-cons f a (set xs k y), sum_by-cons f a xs)
-
--- a sum of what is smaller at each place is smaller
-pub sum_less : {X : Type 0} (f g : X → ℕ) (xs : List X) → ((k : ℕ) (x : X) → slice_get xs k ≡ Some x → f x ≤ g x) → sum_by f xs ≤ sum_by g xs
-sum_less f g [] h = omega arith
-sum_less f g (x ∷ xs) h = omega (arith, h 0 x refl, sum_less f g xs (λ k y e. h (suc k) y e), sum_by-cons f x xs, sum_by-cons g x xs)
-
--- what one item gives is within the sum
-pub in_sum : {X : Type 0} (f : X → ℕ) (xs : List X) (k : ℕ) (x : X) → slice_get xs k ≡ Some x → f x ≤ sum_by f xs
-in_sum f [] k x e = absurd (cc)
-in_sum f (a ∷ xs) zero x e = let same : f a ≡ f x = let is : a ≡ x = cc in ap f is in omega (arith, same, sum_by-cons f a xs)
-in_sum f (a ∷ xs) (suc k) x e = omega (arith, in_sum f xs k x e, sum_by-cons f a xs)

@@ -27,15 +27,16 @@ use Rattle.folder_core.specs.Replay.{Seen}
 use Rattle.script_engine.specs.declared.engine.Engine.{Engine}
 use Rattle.script_engine.specs.declared.refusal.Refusal.{Refusal}
 use Rattle.script_engine.specs.declared.refusal.Refusal.TheVariants.{VectorFull}
-use Rattle.script_engine.specs.Engines.{Answered, Stands, machines_of, made_by_all}
+use Rattle.script_engine.specs.Engines.{Answered, Stands, local_by_all, machines_of}
 use Rattle.script_engine.specs.Pulls.{CanTake, Ended, FetchedFrom, HasForm, IsPinned, MayFinish, Says, Took}
 use Rattle.script_engine.specs.Replies.{file_of, pinned_of, taken_of}
 use Rattle.script_engine.specs.declared.names.MemberName.{MemberName}
 use Rattle.script_engine.specs.Scene.{Scene, in_world, numbered}
 use Rattle.script_engine.specs.Standing.{HaveRoom, MachineStands, MachinesStand}
 use Rattle.script_engine.proofs.Adopting.{Adopts, IsOurs, IsTooWide as IsTooWideFor, adopts_at}
-use Rattle.script_engine.proofs.Events.{few_recorded, made_after, small_at, stands_on, stands_still}
+use Rattle.script_engine.proofs.Events.{few_recorded, local_after, stands_on, stands_still}
 use Rattle.script_engine.proofs.Finishing.{Finishes, IsTooWide as IsTooWideIn, finishes_at}
+use Rattle.script_engine.proofs.Journals.{local_same}
 use Rattle.script_engine.proofs.Pairs.{get_within}
 use Rattle.script_engine.proofs.Spoken.{machine_held}
 use Rattle.script_engine.proofs.Serving.{IsBodyOf, Sends, Waits, files_at, sent_update_stands, sent_vector_stands}
@@ -54,15 +55,18 @@ place_or_none d k = by (leb (database_of 1) d) refl (leb d (database_of k)) refl
     by false e b f = inr (λ j l same. let high : d < database_of 1 = grind (arith, nat_tests) in omega (arith, high, same))
     by true e false f = inr (λ j l same. let high : database_of k < d = grind (arith, nat_tests) in omega (arith, high, l, same))
 
--- every member's numbers are small, also those of no member
-pub small_consumed : (machines : List Machine) (s : Scene) (d : ℕ) → MachinesStand machines s → HaveRoom machines → (s.world.at d).consumed < 2 ^ 62
-small_consumed machines s d h room = by (place_or_none d (length s.names))
+-- every member's numbers have 64 bits, also those of no member
+pub small_consumed : (machines : List Machine) (s : Scene) (d : ℕ) → MachinesStand machines s → (s.world.at d).consumed < 2 ^ 64
+small_consumed machines s d h = by (place_or_none d (length s.names))
   where
-    by : ((j : ℕ) × (j < length s.names) × (d ≡ database_of (j + 1))) ⊎ ((j : ℕ) → j < length s.names → d ≢ database_of (j + 1)) → (s.world.at d).consumed < 2 ^ 62
+    by : ((j : ℕ) × (j < length s.names) × (d ≡ database_of (j + 1))) ⊎ ((j : ℕ) → j < length s.names → d ≢ database_of (j + 1)) → (s.world.at d).consumed < 2 ^ 64
     by (inl (j, within, is)) =
         let many = h.many in
         let (m, at) = get_within machines j (omega (arith, within, many)) in
-        subst (λ i. (s.world.at i).consumed < 2 ^ 62) (sym is) (small_at machines s j m h room at)
+        let now = (h.each j m at).book.consumed in
+        let most = (h.each j m at).sound.order.consumed in
+        let usns = h.usns j m at in
+        subst (λ i. (s.world.at i).consumed < 2 ^ 64) (sym is) (omega (arith, now, most, usns))
     by (inr nobody) =
         let (kind, is) = h.scene.unnamed d nobody in
         let same : (s.world.at d).consumed ≡ 9 = ap (λ (x : Member). x.consumed) is in omega (arith, same)
@@ -74,14 +78,15 @@ pub record Asks (at : ℕ) (reply : Reply) (old new : Engine) (s : Scene) : Type
   pub reads : pinned_of reply ≡ Some pinned
   pub is : IsPinned s.world (database_of (at + 1)) pinned
   pub stands : Stands new (in_world s (sends_vector s.world (database_of (at + 1))))
-  pub made : made_by_all new ≡ made_by_all old
+  pub made : local_by_all new ≡ local_by_all old
 
 -- a place of a machine is one of a name
 within_names : (e : Engine) (s : Scene) (at : ℕ) (m : Machine) → Stands e s → slice_get (machines_of e) at ≡ Some m → at < length s.names
 within_names e s at m h found = let within = slice_get_within (machines_of e) at m found in let many = h.machines.many in omega (arith, within, many)
 
-same_made : (old new : Engine) (at : ℕ) (m next : Machine) → slice_get (machines_of old) at ≡ Some m → machines_of new ≡ set (machines_of old) at next → next.volume.next_usn ≡ m.volume.next_usn → made_by_all new ≡ made_by_all old
-same_made old new at m next found machines same = let sums = made_after old new at m next found machines in omega (arith, sums, same)
+-- where the volume stays, as many records are local
+same_made : (old new : Engine) (at : ℕ) (m next : Machine) → slice_get (machines_of old) at ≡ Some m → machines_of new ≡ set (machines_of old) at next → next.volume ≡ m.volume → local_by_all new ≡ local_by_all old
+same_made old new at m next found machines same = let sums = local_after old new at m next found machines in let local = local_same m next same in omega (arith, sums, local)
 
 pub asked_on : (at : ℕ) (reply : Reply) (old new : Engine) (s : Scene) → Stands old s → new.names ≡ old.names → Answered at event.Vector reply old new → Asks at reply old new s
 asked_on at reply old new s h names a =
@@ -93,7 +98,7 @@ asked_on at reply old new s h names a =
       reads = ap pinned_of a.answers.0;
       is = record { vector = record { canonical = m.book.vector.canonical; covering = m.book.vector.covering }; records = m.book.records };
       stands = record { names = still.names; formed = still.formed; machines = sent_vector_stands (machines_of new) s at d still.machines (within_names old s at a.before h a.found) };
-      made = same_made old new at a.before a.after a.found a.machines (ap (λ (x : Machine). x.volume.next_usn) a.answers.1);
+      made = same_made old new at a.before a.after a.found a.machines (ap (λ (x : Machine). x.volume) a.answers.1);
     }
 
 -- ---- what is wanted
@@ -119,7 +124,7 @@ pub record AdoptsAt (at server : ℕ) (u : Update) (reply : Reply) (old new : En
   pub after : World
   pub took : Took s.world (database_of (at + 1)) server u outcome after
   pub stands : Stands new (in_world s after)
-  pub made : made_by_all new ≡ made_by_all old
+  pub made : local_by_all new ≡ local_by_all old
 
 -- an update that may be sent was recorded
 sent_is_there : (w : World) (server : ℕ) (u : Update) → IsOfPage w server u ⊎ IsOfFile w server u → In u w.all
@@ -131,10 +136,10 @@ is_ours machines s server u h room sent =
     let here = sent_is_there s.world server u sent in
     let ours = h.ours u here in
     let below = (h.scene.world.invariant.versions.recorded u here).1 in
-    let small = small_consumed machines s u.gvsn.db h room in
+    let small = small_consumed machines s u.gvsn.db h in
     record { here = here; set = ours.0; flags = ours.1; few = few_recorded machines s h room; low = omega (arith, below, small) }
 
-pub adopted_on : (at server entry : ℕ) (form : Option (List ℕ)) (u : Update) (reply : Reply) (old new : Engine) (s : Scene) → made_by_all old < 2 ^ 60 → Stands old s → new.names ≡ old.names
+pub adopted_on : (at server entry : ℕ) (form : Option (List ℕ)) (u : Update) (reply : Reply) (old new : Engine) (s : Scene) → local_by_all old < 2 ^ 60 → Stands old s → new.names ≡ old.names
     → Answered at (event.Adopt server entry u form) reply old new → HasForm u form → CanTake s.world (database_of (at + 1)) server u → AdoptsAt at server u reply old new s
 adopted_on at server entry form u reply old new s room h names a has can =
     by (adopts_at (sends_update s.world server u) (database_of (at + 1)) u form has a.before reply a.after there.scene.world (there.each at a.before a.found) a.sound (is_ours (machines_of old) s server u h.machines room can.sent) (server, inl refl) can.wanted a.answers)
@@ -148,8 +153,8 @@ adopted_on at server entry form u reply old new s room h names a has can =
       reads = ap taken_of x.reply_is;
       after = x.after;
       took = (x.fits, sends_update s.world server u, (can.sent, refl), x.step);
-      stands = stands_on old new (in_world s (sends_update s.world server u)) at a.before a.after x.after (record { names = h.names; formed = h.formed; machines = there }) names a.found a.machines x.goes;
-      made = same_made old new at a.before a.after a.found a.machines x.usns;
+      stands = stands_on old new (in_world s (sends_update s.world server u)) at a.before a.after x.after (record { names = h.names; formed = h.formed; machines = there }) names a.found a.machines x.goes a.usns;
+      made = same_made old new at a.before a.after a.found a.machines x.volume;
     }
     by (inr x) = record {
       outcome = Err (VectorFull x.count);
@@ -157,7 +162,7 @@ adopted_on at server entry form u reply old new s room h names a has can =
       after = s.world;
       took = (x.count, (can.wanted, x.exceeds), refl, refl);
       stands = stands_still old new s at a.before a.after h names a.found a.machines x.same;
-      made = same_made old new at a.before a.after a.found a.machines (ap (λ (y : Machine). y.volume.next_usn) x.same);
+      made = same_made old new at a.before a.after a.found a.machines (ap (λ (y : Machine). y.volume) x.same);
     }
 
 -- ---- a file
@@ -180,7 +185,7 @@ pub record FetchesAt (at : ℕ) (u : Update) (reply : Reply) (old new : Engine) 
   pub reads : file_of reply ≡ Some outcome
   pub answers : Answers s.world (database_of (at + 1)) u outcome
   pub stands : Stands new s
-  pub made : made_by_all new ≡ made_by_all old
+  pub made : local_by_all new ≡ local_by_all old
 
 pub fetched_on : FilesHaveForms → (at : ℕ) (u : Update) (reply : Reply) (old new : Engine) (s : Scene) → Stands old s → new.names ≡ old.names → Answered at (event.File u.uid) reply old new
     → Covered s.world.all (s.world.at (database_of (at + 1))).known u → FetchesAt at u reply old new s
@@ -194,14 +199,14 @@ fetched_on forms at u reply old new s h names a covered =
       reads = ap file_of x.reply_is;
       answers = x.last;
       stands = stands_still old new s at a.before a.after h names a.found a.machines same;
-      made = same_made old new at a.before a.after a.found a.machines (ap (λ (y : Machine). y.volume.next_usn) same);
+      made = same_made old new at a.before a.after a.found a.machines (ap (λ (y : Machine). y.volume) same);
     }
     by (inr x) same = record {
       outcome = answer.Found a.place x.update x.body;
       reads = ap file_of x.reply_is;
       answers = (x.file, x.of_file, x.form);
       stands = stands_still old new s at a.before a.after h names a.found a.machines same;
-      made = same_made old new at a.before a.after a.found a.machines (ap (λ (y : Machine). y.volume.next_usn) same);
+      made = same_made old new at a.before a.after a.found a.machines (ap (λ (y : Machine). y.volume) same);
     }
 
 -- ---- the end
@@ -212,7 +217,7 @@ pub record FinishesAt (at : ℕ) (versions : Versions) (reply : Reply) (old new 
   pub after : World
   pub ended : Ended s.world (database_of (at + 1)) versions outcome after
   pub stands : Stands new (in_world s after)
-  pub made : made_by_all new ≡ made_by_all old
+  pub made : local_by_all new ≡ local_by_all old
 
 pub finished_on : (at server entry : ℕ) (versions : Versions) (sent : List Interval) (seen : List Update) (reply : Reply) (old new : Engine) (s : Scene) → Stands old s → new.names ≡ old.names
     → Answered at (event.Finish server entry sent seen) reply old new → MayFinish s.world (database_of (at + 1)) versions sent seen → FinishesAt at versions reply old new s
@@ -225,8 +230,8 @@ finished_on at server entry versions sent seen reply old new s h names a may =
       reads = ap taken_of x.reply_is;
       after = x.after;
       ended = inl (x.fits, x.step, refl);
-      stands = stands_on old new s at a.before a.after x.after h names a.found a.machines x.goes;
-      made = same_made old new at a.before a.after a.found a.machines x.usns;
+      stands = stands_on old new s at a.before a.after x.after h names a.found a.machines x.goes a.usns;
+      made = same_made old new at a.before a.after a.found a.machines x.volume;
     }
     by (inr x) = record {
       outcome = Err (VectorFull x.count);
@@ -234,7 +239,7 @@ finished_on at server entry versions sent seen reply old new s h names a may =
       after = s.world;
       ended = inr (x.count, x.exceeds, refl, refl);
       stands = stands_still old new s at a.before a.after h names a.found a.machines x.same;
-      made = same_made old new at a.before a.after a.found a.machines (ap (λ (y : Machine). y.volume.next_usn) x.same);
+      made = same_made old new at a.before a.after a.found a.machines (ap (λ (y : Machine). y.volume) x.same);
     }
 
 -- ---- what a call says of them

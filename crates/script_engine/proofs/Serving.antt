@@ -34,6 +34,7 @@ sent_vector_stands machines s k server h within = record {
   many = h.many;
   each = λ j m at. h.each j m at;
   ours = h.ours;
+  usns = λ j m at. h.usns j m at;
   counted = h.counted;
   scene = scene_on s k (sends_vector s.world server) h.scene within (passes_vector s.world _ server (sends_vector s.world server) h.scene.world refl);
 }
@@ -44,6 +45,7 @@ sent_update_stands machines s k server u h within step = record {
   many = h.many;
   each = λ j m at. h.each j m at;
   ours = h.ours;
+  usns = λ j m at. h.usns j m at;
   counted = h.counted;
   scene = scene_on s k (sends_update s.world server u) h.scene within (passes_update s.world _ server u (sends_update s.world server u) h.scene.world step);
 }

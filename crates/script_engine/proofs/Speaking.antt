@@ -1,5 +1,5 @@
 -- What lines print and leave, by all of their names.
-use Rattle.std.proofs.Common.{◌≡◌, ◌≢◌, ◌+◌, ◌++◌, ◌⊎◌, ℕ, zero, suc, true, false, cond, List, [], ◌∷◌, length, map, refl, sym, ap, ◌∙◌, subst, arith, inl, inr, Some, None, Result, Ok, Err, IfOk, String, bytes_eq, MatchOption}
+use Rattle.std.proofs.Common.{◌≡◌, ◌≢◌, ◌<◌, ◌+◌, ◌^◌, ◌++◌, ◌⊎◌, ℕ, zero, suc, true, false, cond, List, [], ◌∷◌, length, map, refl, sym, ap, ◌∙◌, subst, arith, inl, inr, Some, None, Result, Ok, Err, IfOk, String, bytes_eq, MatchOption}
 use Rattle.std.specs.Prelude.{codes, decimal, is_some, slice_get, string_bytes}
 use Rattle.std.specs.declared.alloc.Global.{Global}
 use Rattle.std.proofs.lemmas.List.{length-append}
@@ -28,7 +28,7 @@ use Rattle.script_engine.specs.Pulls.{PullEnds}
 use Rattle.script_engine.specs.Refusals.{first_refusal, refused_text, unless_named}
 use Rattle.script_engine.specs.Scene.{IsNamed, Scene, in_world, numbered, place_of, with_name}
 use Rattle.script_engine.specs.Sound.{IsNobodys}
-use Rattle.script_engine.specs.Standing.{MachineStands, MachinesStand, consumed_in}
+use Rattle.script_engine.specs.Standing.{MachineStands, MachinesStand, recorded_in}
 use Rattle.script_engine.specs.Text.{Acts, Does, IsRefused, left_by}
 use Rattle.script_engine.proofs.Events.{ok_by}
 use Rattle.script_engine.proofs.Scenes.{sound_with_name}
@@ -116,7 +116,8 @@ machines_more machines s name kind h keeps = record {
       let many = h.many in omega (arith, a, b, many);
   each = λ k m found. elim (push_at machines (fresh_machine kind (database_of (length s.names + 1)) content_set) k m found) [ inl old ↦ before k m old | inr now ↦ last k m now.0 now.1 ];
   ours = h.ours;
-  counted = let push = sum_by_push consumed_in machines (fresh_machine kind (database_of (length s.names + 1)) content_set) in let counted = h.counted in omega (arith, push, counted);
+  usns = λ k m found. elim (push_at machines (fresh_machine kind (database_of (length s.names + 1)) content_set) k m found) [ inl old ↦ h.usns k m old | inr now ↦ subst (λ (z : Machine). z.volume.next_usn < 2 ^ 64) (sym now.1) (omega arith) ];
+  counted = let push = sum_by_push recorded_in machines (fresh_machine kind (database_of (length s.names + 1)) content_set) in let counted = h.counted in omega (arith, push, counted);
   scene = sound_with_name s name kind h.scene;
 }
   where

@@ -20,7 +20,7 @@ use Rattle.script_engine.specs.Consuming.{ConsumesAll, ConsumesNext}
 use Rattle.script_engine.specs.Named.{AreNamed}
 use Rattle.script_engine.specs.Scene.{Scene, members_of, place_of}
 use Rattle.script_engine.specs.Text.{IsRefused}
-use Rattle.script_engine.specs.Standing.{MachinesStand, consumed_in, made_in}
+use Rattle.script_engine.specs.Standing.{MachinesStand, local_in, unconsumed_in}
 
 -- the members' machines
 abbrev pub machines_of : Engine → List Machine
@@ -38,20 +38,21 @@ HasScene e = (s : Scene) × Stands e s
 
 -- ---- bounds
 
--- how many journal records the members made, and how many they consumed
-abbrev pub made_by_all : Engine → ℕ
-made_by_all e = sum_by made_in (machines_of e)
+-- how many local records the members' journals have
+abbrev pub local_by_all : Engine → ℕ
+local_by_all e = sum_by local_in (machines_of e)
 
-abbrev pub consumed_by_all : Engine → ℕ
-consumed_by_all e = sum_by consumed_in (machines_of e)
+-- how many journal records, local or not, the members haven't consumed
+abbrev pub unconsumed_by_all : Engine → ℕ
+unconsumed_by_all e = sum_by unconsumed_in (machines_of e)
 
--- after n lines there are so few
+-- after n lines there are so few local records
 abbrev pub IsWithin : ℕ → Engine → Type 0
-IsWithin n e = made_by_all e ≤ n
+IsWithin n e = local_by_all e ≤ n
 
 -- one line more is counted without overflow
 abbrev pub HasRoom : Engine → Type 0
-HasRoom e = made_by_all e + 1 < 2 ^ 60
+HasRoom e = local_by_all e + 1 < 2 ^ 60
 
 -- ---- one event
 
@@ -63,6 +64,7 @@ pub record Answered (at : ℕ) (event : Event) (reply : Reply) (old new : Engine
   pub found : slice_get (machines_of old) at ≡ Some before
   pub answers : Answers place before event reply after
   pub sound : IsSoundMachine after
+  pub usns : after.volume.next_usn < 2 ^ 64
   pub machines : machines_of new ≡ slice_set (machines_of old) at after
 
 -- a local operation is done and got this USN, or is refused

@@ -1,5 +1,5 @@
 -- Which scene an engine stands for.
-use Rattle.std.specs.Prelude.{◌≡◌, ◌<◌, ◌≤◌, ◌+◌, ◌-◌, ◌^◌, ℕ, List, Option, Some, length, option_map, slice_get, sum_by}
+use Rattle.std.specs.Prelude.{◌≡◌, ◌<◌, ◌≤◌, ◌+◌, ◌-◌, ◌^◌, ◌&&◌, nat_lt, ℕ, List, Option, Some, count_by, length, option_map, slice_get, sum_by}
 use Rattle.frs_base.specs.Identifiers.{content_set, database_of}
 use Rattle.frs_base.specs.Options.{In}
 use Rattle.frs_base.specs.declared.version.Uid.{Uid}
@@ -28,23 +28,29 @@ pub record MachineStands (all : List Update) (x : Member) (d : ℕ) (m : Machine
 abbrev pub AreOurs : List Update → Type 0
 AreOurs all = (u : Update) → In u all → (u.set ≡ content_set) × (u.flags ≡ 0)
 
--- how many journal records a member consumed, and how many it made
-abbrev pub consumed_in : Machine → ℕ
-consumed_in m = m.book.consumed - 9
+-- how many local records a member's journal has
+abbrev pub local_in : Machine → ℕ
+local_in m = count_by (λ r. r.local) m.volume.journal
 
-abbrev pub made_in : Machine → ℕ
-made_in m = m.volume.next_usn - 9
+-- how many of those it consumed
+abbrev pub recorded_in : Machine → ℕ
+recorded_in m = count_by (λ r. r.local && nat_lt r.usn m.book.consumed) m.volume.journal
+
+-- how many journal records, local or not, it hasn't consumed
+abbrev pub unconsumed_in : Machine → ℕ
+unconsumed_in m = m.volume.next_usn - m.book.consumed
 
 -- the machines stand for the scene's members, in order
 pub record MachinesStand (machines : List Machine) (s : Scene) : Type 0 where
   pub many : length machines ≡ length s.names
   pub each : (k : ℕ) (m : Machine) → slice_get machines k ≡ Some m → MachineStands s.world.all (s.world.at (database_of (k + 1))) (database_of (k + 1)) m
   pub ours : AreOurs s.world.all
-  pub counted : length s.world.all ≤ sum_by consumed_in machines
+  pub usns : (k : ℕ) (m : Machine) → slice_get machines k ≡ Some m → m.volume.next_usn < 2 ^ 64
+  pub counted : length s.world.all ≤ sum_by recorded_in machines
   pub scene : IsSoundScene s
 
 -- ---- bounds
 
--- one journal record more is counted without overflow
+-- one local record more is counted without overflow
 abbrev pub HaveRoom : List Machine → Type 0
-HaveRoom machines = sum_by made_in machines < 2 ^ 60
+HaveRoom machines = sum_by local_in machines < 2 ^ 60

@@ -44,7 +44,7 @@ impl Engine {
     ghost use Rattle.folder_core.specs.declared.event.Event.TheVariants as Event;
     ghost use Rattle.script_engine.specs.Histories.{Came, Entered};
     ghost use Rattle.script_engine.specs.Replies.{consumed_of, usn_of};
-    ghost use Rattle.script_engine.specs.Engines.{Answered, ConsumedAll, ConsumedNext, HasRoom, HasScene, IsWithin, Operated, Stands, consumed_by_all, count_of, machines_of, made_by_all};
+    ghost use Rattle.script_engine.specs.Engines.{Answered, ConsumedAll, ConsumedNext, HasRoom, HasScene, IsWithin, Operated, Stands, count_of, local_by_all, machines_of, unconsumed_by_all};
 
     /// An engine without members, which takes no memory.
     pub fn new() -> Engine
@@ -114,10 +114,11 @@ impl Engine {
                 requires { IsEarlyEvent event }
                 ensures does { IfOk result (λ reply. replay.Does 0 event reply folder.old folder.new) }
                 ensures sound { IsSound folder.new.machine }
+                ensures usns { folder.new.machine.volume.next_usn < 2 ^ 64 }
                 ensures err { OnErr result (folder.new ≡ folder.old) }
             {
                 let reply = folder.event(alloc, SCRIPT, event);
-                let _ = folder.book();
+                let _ = folder.volume().next_usn();
                 reply
             },
         )
@@ -135,7 +136,7 @@ impl Engine {
         ensures ok { (s : Scene) → Stands self.old s → IfOk result (λ outcome. (w : World) × Operated s.world (database_of (at + 1)) operation outcome w × Stands self.new (in_world s w)) }
         ensures err { (s : Scene) → Stands self.old s → OnErr result (Stands self.new s) }
         ensures came { IfOk result (λ outcome. Came at (Event.Local operation) usn_of outcome self.old self.new) }
-        ensures made { OnOk result (made_by_all self.new ≤ made_by_all self.old + 1) }
+        ensures made { OnOk result (local_by_all self.new ≤ local_by_all self.old + 1) }
         ensures names { self.new.names ≡ self.old.names }
         ensures many { length self.new.folders.items ≡ length self.old.folders.items }
     {
@@ -156,12 +157,12 @@ impl Engine {
         requires within { at < length self.old.folders.items }
         requires scene { HasScene self.old }
         requires early { moment < 2 ^ 61 }
-        requires room { made_by_all self.old < 2 ^ 60 }
+        requires room { local_by_all self.old < 2 ^ 60 }
         ensures ok { (s : Scene) → Stands self.old s → IfOk result (λ outcome. (w : World) × ConsumedNext s.world (database_of (at + 1)) moment outcome w × Stands self.new (in_world s w)) }
         ensures err { (s : Scene) → Stands self.old s → OnErr result (Stands self.new s) }
         ensures came { IfOk result (λ outcome. Came at (Event.Consume moment) consumed_of outcome self.old self.new) }
-        ensures made { OnOk result (made_by_all self.new ≡ made_by_all self.old) }
-        ensures more { IfOk result (λ outcome. consumed_by_all self.new ≡ consumed_by_all self.old + count_of outcome) }
+        ensures made { OnOk result (local_by_all self.new ≡ local_by_all self.old) }
+        ensures fewer { IfOk result (λ outcome. unconsumed_by_all self.new + count_of outcome ≡ unconsumed_by_all self.old) }
         ensures names { self.new.names ≡ self.old.names }
         ensures many { length self.new.folders.items ≡ length self.old.folders.items }
     {
@@ -182,10 +183,10 @@ impl Engine {
         requires within { at < length self.old.folders.items }
         requires scene { HasScene self.old }
         requires early { moment < 2 ^ 61 }
-        requires room { made_by_all self.old < 2 ^ 60 }
+        requires room { local_by_all self.old < 2 ^ 60 }
         ensures ok { (s : Scene) → Stands self.old s → IfOk result (λ outcome. (w : World) × ConsumedAll s.world (database_of (at + 1)) moment outcome w × Stands self.new (in_world s w)) }
         ensures err { (s : Scene) → Stands self.old s → OnErr result ((w : World) × (done : List Consumed) × ConsumesSome s.world (database_of (at + 1)) moment done w × Stands self.new (in_world s w)) }
-        ensures made { OnOk result (made_by_all self.new ≡ made_by_all self.old) }
+        ensures made { OnOk result (local_by_all self.new ≡ local_by_all self.old) }
         ensures names { self.new.names ≡ self.old.names }
     {
         let mut last = None;
@@ -204,7 +205,7 @@ impl Engine {
         requires scene { HasScene self.old }
         ensures ok { (s : Scene) → Stands self.old s → IfOk result (λ text. (new : Scene) × Does s (Line.Member name.now kind) (string_bytes text) new × Stands self.new new) }
         ensures err { (s : Scene) → Stands self.old s → OnErr result (Stands self.new s) }
-        ensures made { OnOk result (made_by_all self.new ≤ made_by_all self.old + 1) }
+        ensures made { OnOk result (local_by_all self.new ≤ local_by_all self.old + 1) }
     {
         if self.place_of(name.as_slice()).is_some() {
             let text = exists_text(alloc, name.as_slice())?;
@@ -228,7 +229,7 @@ impl Engine {
         requires scene { HasScene self.old }
         ensures ok { (s : Scene) → Stands self.old s → IfOk result (λ done. Stands self.new (with_name s name kind)) }
         ensures err { (s : Scene) → Stands self.old s → OnErr result (Stands self.new s) }
-        ensures made { OnOk result (made_by_all self.new ≤ made_by_all self.old + 1) }
+        ensures made { OnOk result (local_by_all self.new ≤ local_by_all self.old + 1) }
     {
         self.names.reserve_one(alloc)?;
         self.folders.reserve_one(alloc)?;

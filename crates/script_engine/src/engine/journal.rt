@@ -11,7 +11,7 @@ use std::alloc::{AllocError, Global};
 
 impl Engine {
     ghost use Rattle.script_lang.specs.Grammar.{is_member_name};
-    ghost use Rattle.script_engine.specs.Engines.{AtNamed, HasRoom, HasScene, Stands, made_by_all};
+    ghost use Rattle.script_engine.specs.Engines.{AtNamed, HasRoom, HasScene, Stands, local_by_all};
     ghost use Rattle.script_engine.specs.Text.{Changes, Consumes};
     ghost use Rattle.script_engine.specs.Begun.{BeginsAt, BeginsChange};
     ghost use Rattle.script_engine.specs.Consuming.{ConsumesOne};
@@ -30,7 +30,7 @@ impl Engine {
         requires room { HasRoom self.old }
         ensures ok { (s : Scene) → Stands self.old s → IfOk result (λ text. (new : Scene) × AtNamed s name.now (λ d said after. Consumes s name.now d moment said after) (string_bytes text) new × Stands self.new new) }
         ensures err { (s : Scene) → Stands self.old s → OnErr result ((new : Scene) × BeginsAt s name.now (λ d w. (c : Consumed) × ConsumesOne s.world d moment c w) new × Stands self.new new) }
-        ensures made { OnOk result (made_by_all self.new ≤ made_by_all self.old + 1) }
+        ensures made { OnOk result (local_by_all self.new ≤ local_by_all self.old + 1) }
     {
         let Some(at) = self.place_of(name) else {
             return unknown_text(alloc, name);
@@ -55,7 +55,7 @@ impl Engine {
         requires room { HasRoom self.old }
         ensures ok { (s : Scene) → Stands self.old s → IfOk result (λ text. (new : Scene) × AtNamed s name.now (λ d said after. Changes s name.now d (Put path.now []) moment said after) (string_bytes text) new × Stands self.new new) }
         ensures err { (s : Scene) → Stands self.old s → OnErr result ((new : Scene) × BeginsAt s name.now (λ d w. BeginsChange s.world d (Put path.now []) moment w) new × Stands self.new new) }
-        ensures made { OnOk result (made_by_all self.new ≤ made_by_all self.old + 1) }
+        ensures made { OnOk result (local_by_all self.new ≤ local_by_all self.old + 1) }
     {
         let Some(at) = self.place_of(name) else {
             return unknown_text(alloc, name);

@@ -109,7 +109,7 @@ pub(super) fn remove_of(alloc: Global, path: &List<Name>) -> Result<LocalOp, All
 
 impl Engine {
     ghost use Rattle.script_lang.specs.Grammar.{is_member_name};
-    ghost use Rattle.script_engine.specs.Engines.{AtNamed, HasScene, Stands, made_by_all};
+    ghost use Rattle.script_engine.specs.Engines.{AtNamed, HasScene, Stands, local_by_all};
     ghost use Rattle.script_engine.specs.Text.{Operates};
     ghost use Rattle.script_engine.specs.Begun.{BeginsAt, OperatesOnce};
 
@@ -124,7 +124,7 @@ impl Engine {
         requires scene { HasScene self.old }
         ensures ok { (s : Scene) → Stands self.old s → IfOk result (λ text. (new : Scene) × AtNamed s name.now (λ d said after. Operates s d operation said after) (string_bytes text) new × Stands self.new new) }
         ensures err { (s : Scene) → Stands self.old s → OnErr result ((new : Scene) × BeginsAt s name.now (λ d w. OperatesOnce s.world d operation w) new × Stands self.new new) }
-        ensures made { OnOk result (made_by_all self.new ≤ made_by_all self.old + 1) }
+        ensures made { OnOk result (local_by_all self.new ≤ local_by_all self.old + 1) }
     {
         let Some(at) = self.place_of(name) else {
             return unknown_text(alloc, name);
@@ -166,7 +166,7 @@ impl Engine {
         requires scene { HasScene self.old }
         ensures ok { (s : Scene) → Stands self.old s → IfOk result (λ text. (new : Scene) × AtNamed s name.now (λ d said after. Operates s d (Put path.now (filled length)) said after) (string_bytes text) new × Stands self.new new) }
         ensures err { (s : Scene) → Stands self.old s → OnErr result ((new : Scene) × BeginsAt s name.now (λ d w. OperatesOnce s.world d (Put path.now (filled length)) w) new × Stands self.new new) }
-        ensures made { OnOk result (made_by_all self.new ≤ made_by_all self.old + 1) }
+        ensures made { OnOk result (local_by_all self.new ≤ local_by_all self.old + 1) }
     {
         if length > LARGEST {
             return self.fill_too_large(alloc, name, path, length);

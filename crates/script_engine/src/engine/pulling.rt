@@ -68,7 +68,7 @@ impl Engine {
     ghost use Rattle.folder_core.specs.declared.event.Event.TheVariants as Event;
     ghost use Rattle.script_engine.specs.Histories.{Adopted, Came, Fetches, Pulled, answer_of};
     ghost use Rattle.script_engine.specs.Replies.{file_of, pinned_of, taken_of};
-    ghost use Rattle.script_engine.specs.Engines.{HasRoom, HasScene, Stands, made_by_all};
+    ghost use Rattle.script_engine.specs.Engines.{HasRoom, HasScene, Stands, local_by_all};
     ghost use Rattle.script_engine.specs.Text.{Does};
     ghost use Rattle.script_engine.specs.Begun.{Begins, BeginsFiles, BeginsPages, BeginsPull};
     ghost use Rattle.script_engine.specs.Pulls.{AreCovered, ArePages, CanTake, Ended, FetchedFrom, FilesTaken, HasForm, IsPinned, MayEnd, MayFetch, MayFinish, MayPage, MayTake, PagesTaken, PullEnds, Says, Took};
@@ -80,7 +80,7 @@ impl Engine {
         ensures ok { (s : Scene) → Stands self.old s → IfOk result (λ pinned. IsPinned s.world (database_of (at + 1)) pinned × Stands self.new (in_world s (sends_vector s.world (database_of (at + 1))))) }
         ensures err { (s : Scene) → Stands self.old s → OnErr result (Stands self.new s) }
         ensures came { IfOk result (λ pinned. Came at Event.Vector pinned_of pinned self.old self.new) }
-        ensures made { OnOk result (made_by_all self.new ≡ made_by_all self.old) }
+        ensures made { OnOk result (local_by_all self.new ≡ local_by_all self.old) }
         ensures many { length self.new.folders.items ≡ length self.old.folders.items }
     {
         let reply = self.event(alloc, at, Event::Vector)?;
@@ -116,11 +116,11 @@ impl Engine {
         requires within { at < length self.old.folders.items }
         requires form { HasForm update form }
         requires may { MayTake self.old (database_of (at + 1)) from update }
-        requires room { made_by_all self.old < 2 ^ 60 }
+        requires room { local_by_all self.old < 2 ^ 60 }
         ensures ok { (s : Scene) → Stands self.old s → CanTake s.world (database_of (at + 1)) from update → IfOk result (λ outcome. (w : World) × Took s.world (database_of (at + 1)) from update outcome w × Stands self.new (in_world s w)) }
         ensures err { (s : Scene) → Stands self.old s → OnErr result (Stands self.new s) }
         ensures came { IfOk result (λ outcome. Came at (Event.Adopt from entry update form) taken_of outcome self.old self.new) }
-        ensures made { OnOk result (made_by_all self.new ≡ made_by_all self.old) }
+        ensures made { OnOk result (local_by_all self.new ≡ local_by_all self.old) }
         ensures many { length self.new.folders.items ≡ length self.old.folders.items }
     {
         let event = Event::Adopt {
@@ -150,7 +150,7 @@ impl Engine {
             → IfOk result (λ outcome. FetchedFrom s.world (database_of (at + 1)) update.now.uid outcome × Stands self.new s) }
         ensures err { (s : Scene) → Stands self.old s → OnErr result (Stands self.new s) }
         ensures came { IfOk result (λ outcome. Came at (Event.File update.now.uid) file_of (answer_of outcome) self.old self.new) }
-        ensures made { OnOk result (made_by_all self.new ≡ made_by_all self.old) }
+        ensures made { OnOk result (local_by_all self.new ≡ local_by_all self.old) }
         ensures many { length self.new.folders.items ≡ length self.old.folders.items }
     {
         files_have_forms();
@@ -183,7 +183,7 @@ impl Engine {
             → IfOk result (λ outcome. (w : World) × Ended s.world (database_of (at + 1)) versions outcome w × Stands self.new (in_world s w)) }
         ensures err { (s : Scene) → Stands self.old s → OnErr result (Stands self.new s) }
         ensures came { IfOk result (λ outcome. Came at (Event.Finish from entry sent seen) taken_of outcome self.old self.new) }
-        ensures made { OnOk result (made_by_all self.new ≡ made_by_all self.old) }
+        ensures made { OnOk result (local_by_all self.new ≡ local_by_all self.old) }
     {
         let event = Event::Finish {
             from,
@@ -210,14 +210,14 @@ impl Engine {
     ) -> Result<Result<Paged, Refusal>, AllocError>
         requires within { at < length self.old.folders.items }
         requires may { MayPage self.old from page.now }
-        requires room { made_by_all self.old < 2 ^ 60 }
+        requires room { local_by_all self.old < 2 ^ 60 }
         ensures ok { (s : Scene) → Stands self.old s → ArePages s.world from page.now
             → IfOk result (λ outcome. (w : World) × PagesTaken s.world (database_of (at + 1)) from page.now outcome w × Stands self.new (in_world s w)) }
         ensures err { (s : Scene) → Stands self.old s → ArePages s.world from page.now
             → OnErr result ((w : World) × BeginsPages s.world (database_of (at + 1)) from page.now w × Stands self.new (in_world s w)) }
         ensures few { IfOk result (λ outcome. IfOk outcome (λ paged. paged.taken ≤ length page.now)) }
         ensures adopted { IfOk result (λ outcome. IfOk outcome (λ paged. Adopted at from entry paged.taken self.old self.new)) }
-        ensures made { OnOk result (made_by_all self.new ≡ made_by_all self.old) }
+        ensures made { OnOk result (local_by_all self.new ≡ local_by_all self.old) }
         ensures many { length self.new.folders.items ≡ length self.old.folders.items }
     {
         let mut listed = Vec::new(alloc);
@@ -250,14 +250,14 @@ impl Engine {
         requires within { at < length self.old.folders.items }
         requires there { from < length self.old.folders.items }
         requires may { MayFetch self.old (database_of (from + 1)) files.now }
-        requires room { made_by_all self.old < 2 ^ 60 }
+        requires room { local_by_all self.old < 2 ^ 60 }
         ensures ok { (s : Scene) → Stands self.old s → AreCovered s.world (database_of (from + 1)) files.now
             → IfOk result (λ outcome. (w : World) × FilesTaken s.world (database_of (at + 1)) (database_of (from + 1)) files.now outcome w × Stands self.new (in_world s w)) }
         ensures err { (s : Scene) → Stands self.old s → AreCovered s.world (database_of (from + 1)) files.now
             → OnErr result ((w : World) × BeginsFiles s.world (database_of (at + 1)) (database_of (from + 1)) files.now w × Stands self.new (in_world s w)) }
         ensures few { IfOk result (λ outcome. IfOk outcome (λ taken. taken ≤ length files.now)) }
         ensures fetched { IfOk result (λ outcome. IfOk outcome (λ taken. Fetches at from (database_of (from + 1)) taken self.old self.new)) }
-        ensures made { OnOk result (made_by_all self.new ≡ made_by_all self.old) }
+        ensures made { OnOk result (local_by_all self.new ≡ local_by_all self.old) }
         ensures many { length self.new.folders.items ≡ length self.old.folders.items }
     {
         let server = self.database(from);
@@ -293,13 +293,13 @@ impl Engine {
         requires within { at < length self.old.folders.items }
         requires there { from < length self.old.folders.items }
         requires scene { HasScene self.old }
-        requires room { made_by_all self.old < 2 ^ 60 }
+        requires room { local_by_all self.old < 2 ^ 60 }
         ensures ok { (s : Scene) → Stands self.old s
             → IfOk result (λ outcome. (w : World) × PullEnds s.world (database_of (at + 1)) (database_of (from + 1)) outcome w × Stands self.new (in_world s w)) }
         ensures err { (s : Scene) → Stands self.old s
             → OnErr result ((w : World) × ((w ≡ s.world) ⊎ BeginsPull s.world (database_of (at + 1)) (database_of (from + 1)) w) × Stands self.new (in_world s w)) }
         ensures pulled { IfOk result (λ outcome. IfOk outcome (λ taken. Pulled at from (database_of (from + 1)) taken self.old self.new)) }
-        ensures made { OnOk result (made_by_all self.new ≡ made_by_all self.old) }
+        ensures made { OnOk result (local_by_all self.new ≡ local_by_all self.old) }
     {
         let server = self.database(from);
         let pinned = self.ask(alloc, from)?;
@@ -334,7 +334,7 @@ impl Engine {
         requires room { HasRoom self.old }
         ensures ok { (s : Scene) → Stands self.old s → IfOk result (λ text. (new : Scene) × Does s (Pull name.now other.now) (string_bytes text) new × Stands self.new new) }
         ensures err { (s : Scene) → Stands self.old s → OnErr result ((new : Scene) × Begins s (Pull name.now other.now) new × Stands self.new new) }
-        ensures made { OnOk result (made_by_all self.new ≤ made_by_all self.old + 1) }
+        ensures made { OnOk result (local_by_all self.new ≤ local_by_all self.old + 1) }
     {
         let Some(at) = self.place_of(name) else {
             return unknown_text(alloc, name);

@@ -1,6 +1,6 @@
 use Rattle.std.proofs.Common.{◌≡◌, ◌+◌, ap, subst}
 use Rattle.frs_base.specs.Identifiers.{database_of}
-use Rattle.script_engine.specs.Engines.{ConsumedNext, consumed_by_all, count_of}
+use Rattle.script_engine.specs.Engines.{ConsumedNext, count_of, unconsumed_by_all}
 use Rattle.script_engine.proofs.Beginning.{on_err, still}
 use Rattle.script_engine.proofs.Events.{consumed_on}
 use Rattle.script_engine.proofs.engine.Engine.consume.Goals as goal
@@ -23,13 +23,13 @@ returns-clause-made c =
     let (s, stands) = c.requires.scene in
     (consumed_on c.args.at c.args.moment c.in_ok-reply.reply c.args.self.now c.event.new.self s c.requires.early c.requires.room stands c.event.ensures.names c.in_ok-reply.ensures.ok).made
 
-pub returns-clause-more : goal.returns-clause-more
-returns-clause-more c =
+pub returns-clause-fewer : goal.returns-clause-fewer
+returns-clause-fewer c =
     let (s, stands) = c.requires.scene in
     let on = consumed_on c.args.at c.args.moment c.in_ok-reply.reply c.args.self.now c.event.new.self s c.requires.early c.requires.room stands c.event.ensures.names c.in_ok-reply.ensures.ok in
     let reads = on.reads in let said = c.consumed_of.ensures in let some = c.in-Some.is in
     let same : on.outcome ≡ c.in-Some.outcome = cc in
-    subst (λ o. consumed_by_all c.event.new.self ≡ consumed_by_all c.args.self.now + count_of o) same on.more
+    subst (λ o. unconsumed_by_all c.event.new.self + count_of o ≡ unconsumed_by_all c.args.self.now) same on.fewer
 
 pub returns-in_err-reply-clause-err : goal.returns-in_err-reply-clause-err
 returns-in_err-reply-clause-err c = λ s stands. on_err _ (still c.args.self.now c.event.new.self s stands (ap (λ x. x.items) c.event.ensures.names) c.in_err-reply.ensures.err)

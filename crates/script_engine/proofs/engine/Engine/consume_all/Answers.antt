@@ -1,21 +1,16 @@
-use Rattle.std.proofs.Common.{◌≡◌, ◌+◌, ◌++◌, ◌∷◌, [], Some, None, Ok, Err, ap, ◌∙◌, subst, arith}
+use Rattle.std.proofs.Common.{◌≡◌, ◌+◌, ◌++◌, ◌∷◌, [], Some, None, Ok, Err, ◌∙◌, subst, arith}
 use Rattle.frs_base.specs.Identifiers.{database_of}
-use Rattle.script_engine.specs.Engines.{ConsumedNext, consumed_by_all, count_of, machines_of}
+use Rattle.script_engine.specs.Engines.{ConsumedNext, count_of, unconsumed_by_all}
 use Rattle.script_engine.specs.Scene.{in_world}
 use Rattle.script_engine.proofs.Beginning.{on_err}
-use Rattle.script_engine.proofs.Events.{consumed_less}
 use Rattle.script_engine.proofs.Exhausting.{at_end, cut, last_push, one_more}
 use Rattle.script_engine.proofs.engine.Engine.consume_all.Goals as goal
 
 pub loop-consumed-smaller : goal.loop-consumed-smaller
 loop-consumed-smaller c =
-    let (s, stands) = c.loop-consumed.invariant.scene in
-    let (w, next, on) = c.in_ok-consumed.ensures.ok s stands in
-    let less = consumed_less (machines_of c.consume.new.self) (in_world s w) on.machines in
-    let made = c.in_ok-consumed.ensures.made in
     let outcome : c.in_ok-consumed.field-0 ≡ Ok (Some c.in-Ok-Some.consumed) = let a = c.in-Ok-Some.is in let b = c.in-Ok-Some.field-0-is in cc in
-    let more : consumed_by_all c.consume.new.self ≡ consumed_by_all c.loop-consumed.self + 1 = c.in_ok-consumed.ensures.more ∙ ap (λ o. consumed_by_all c.loop-consumed.self + count_of o) outcome in
-    omega (arith, less, made, more)
+    let fewer : unconsumed_by_all c.consume.new.self + 1 ≡ unconsumed_by_all c.loop-consumed.self = subst (λ o. unconsumed_by_all c.consume.new.self + count_of o ≡ unconsumed_by_all c.loop-consumed.self) outcome c.in_ok-consumed.ensures.fewer in
+    omega (arith, fewer)
 
 pub loop-consumed-preserved : goal.loop-consumed-preserved
 loop-consumed-preserved c =

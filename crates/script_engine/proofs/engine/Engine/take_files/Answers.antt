@@ -1,7 +1,7 @@
 use Rattle.std.proofs.Common.{◌≡◌, ◌+◌, ◌∙◌, ap, sym, subst, length, suc, Some, arith}
 use Rattle.frs_base.specs.Identifiers.{database_of}
 use Rattle.world_model.specs.Rounds.{IsWanted}
-use Rattle.script_engine.specs.Engines.{Stands, made_by_all}
+use Rattle.script_engine.specs.Engines.{Stands, local_by_all}
 use Rattle.folder_core.specs.declared.event.Event.TheVariants.{Adopt, File}
 use Rattle.script_engine.specs.Histories.{Came, Fetches, answer_of}
 use Rattle.script_engine.specs.Replies.{file_of, taken_of}
@@ -90,7 +90,7 @@ loop-file-preserved c = elim c.if-wants.branch [
       let l = c.loop-file.invariant in
       record {
         many = ap (λ x. length x.folders.items) b.self-is ∙ b.adopt.ensures.many ∙ b.fetch.ensures.many ∙ l.many;
-        made = ap made_by_all b.self-is ∙ b.in_ok-refusal.ensures.made ∙ b.in_ok-fetched.ensures.made ∙ l.made;
+        made = ap local_by_all b.self-is ∙ b.in_ok-refusal.ensures.made ∙ b.in_ok-fetched.ensures.made ∙ l.made;
         few = let few = l.few in let taken = b.taken-is in omega (arith, few, taken);
         fetched =
             let e = database_of (c.args.from + 1) in
@@ -128,7 +128,7 @@ loop-file-preserved c = elim c.if-wants.branch [
       let l = c.loop-file.invariant in
       record {
         many = ap (λ x. length x.folders.items) b.self-is ∙ l.many;
-        made = ap made_by_all b.self-is ∙ l.made;
+        made = ap local_by_all b.self-is ∙ l.made;
         few = let few = l.few in let taken = b.taken-is in omega (arith, few, taken);
         fetched = subst (λ x. Fetches c.args.at c.args.from (database_of (c.args.from + 1)) c.if-wants.taken c.args.self.now x) (sym b.self-is) (subst (λ n. Fetches c.args.at c.args.from (database_of (c.args.from + 1)) n c.args.self.now c.loop-file.self) (sym b.taken-is) l.fetched);
         server = l.server;

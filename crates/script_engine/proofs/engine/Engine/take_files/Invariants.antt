@@ -1,7 +1,7 @@
 use Rattle.std.proofs.Common.{◌≡◌, ◌≤◌, ◌+◌, length}
 use Rattle.frs_base.specs.Identifiers.{database_of}
 use Rattle.world_model.specs.World.{World}
-use Rattle.script_engine.specs.Engines.{Stands, made_by_all}
+use Rattle.script_engine.specs.Engines.{Stands, local_by_all}
 use Rattle.script_engine.specs.Histories.{Fetches}
 use Rattle.script_engine.specs.Pulls.{AreCovered}
 use Rattle.script_engine.specs.Scene.{Scene, in_world}
@@ -12,7 +12,7 @@ use Rattle.script_engine.proofs.engine.Engine.take_files.Given as goal
 abbrev pub invariant-loop-file : goal.invariant-loop-file
 invariant-loop-file l = record {
   many : length l.self.folders.items ≡ length l.fn.self.folders.items;
-  made : made_by_all l.self ≡ made_by_all l.fn.self;
+  made : local_by_all l.self ≡ local_by_all l.fn.self;
   few : l.taken ≤ l.file-index;
   fetched : Fetches l.at l.from (database_of (l.from + 1)) l.taken l.fn.self l.self;
   server : l.server ≡ database_of (l.from + 1);

@@ -2,7 +2,7 @@ use Rattle.std.proofs.Common.{◌≡◌, ◌+◌, ◌++◌, ◌∷◌, [], ◌�
 use Rattle.frs_base.specs.Identifiers.{database_of}
 use Rattle.name_rules.specs.Tree.{is_file}
 use Rattle.world_model.specs.Rounds.{IsWanted}
-use Rattle.script_engine.specs.Engines.{Stands, made_by_all}
+use Rattle.script_engine.specs.Engines.{Stands, local_by_all}
 use Rattle.folder_core.specs.declared.event.Event.TheVariants.{Adopt}
 use Rattle.script_engine.specs.Histories.{Adopted, Came}
 use Rattle.script_engine.specs.Replies.{taken_of}
@@ -54,7 +54,7 @@ loop-update-preserved c = elim c.if-wants.branch [
       let l = c.loop-update.invariant in
       record {
         many = ap (λ x. length x.folders.items) b.self-is ∙ l.many;
-        made = ap made_by_all b.self-is ∙ l.made;
+        made = ap local_by_all b.self-is ∙ l.made;
         few = let few = l.few in let taken = b.taken-is in omega (arith, few, taken);
         adopted = subst (λ x. Adopted c.args.at c.args.from c.args.entry c.if-wants.taken c.args.self.now x) (sym b.self-is) (subst (λ n. Adopted c.args.at c.args.from c.args.entry n c.args.self.now c.loop-update.self) (sym b.taken-is) l.adopted);
         ran = λ s stands pages.
@@ -77,7 +77,7 @@ loop-update-preserved c = elim c.if-wants.branch [
       let l = c.loop-update.invariant in
       record {
         many = ap (λ x. length x.folders.items) b.self-is ∙ b.adopt.ensures.many ∙ l.many;
-        made = ap made_by_all b.self-is ∙ b.in_ok-refusal.ensures.made ∙ l.made;
+        made = ap local_by_all b.self-is ∙ b.in_ok-refusal.ensures.made ∙ l.made;
         few = let few = l.few in let taken = b.taken-is in omega (arith, few, taken);
         adopted =
             let one = b.taken-is in
@@ -109,7 +109,7 @@ loop-update-preserved c = elim c.if-wants.branch [
       let l = c.loop-update.invariant in
       record {
         many = ap (λ x. length x.folders.items) b.self-is ∙ l.many;
-        made = ap made_by_all b.self-is ∙ l.made;
+        made = ap local_by_all b.self-is ∙ l.made;
         few = let few = l.few in let taken = b.taken-is in omega (arith, few, taken);
         adopted = subst (λ x. Adopted c.args.at c.args.from c.args.entry c.if-wants.taken c.args.self.now x) (sym b.self-is) (subst (λ n. Adopted c.args.at c.args.from c.args.entry n c.args.self.now c.loop-update.self) (sym b.taken-is) l.adopted);
         ran = λ s stands pages.
