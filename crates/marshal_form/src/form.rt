@@ -7,34 +7,37 @@ use crate::{LOCAL, marshal, sum};
 use sha1::DIGEST_LEN;
 use std::alloc::{AllocError, Global};
 use std::marker::Model;
+use std::sync::Arc;
 
-/// The bytes of a form with their SHA-1 hash, which is taken once.
+/// The bytes of a form with their SHA-1 hash, which is taken once. Copies share the bytes.
 ///
 /// A contract sees the bytes.
 #[derive(Debug, Drop)]
 pub struct Form {
-    bytes: Vec<u8>,
+    bytes: Arc<Vec<u8>>,
     sum: [u8; DIGEST_LEN],
 }
 
 impl Model for Form {
     ghost use Rattle.std.specs.Prelude.{◌≡◌, List, ℕ};
+    ghost use Rattle.std.specs.Arc.{arc_value};
     ghost use Rattle.sha1.specs.Sha1.{sha1};
 
     ghost Value = { List ℕ };
 
-    ghost view = { λ form. form.bytes.items };
+    ghost view = { λ form. (arc_value form.bytes).items };
 
-    ghost invariant = { λ form. form.sum ≡ sha1 form.bytes.items };
+    ghost invariant = { λ form. form.sum ≡ sha1 (arc_value form.bytes).items };
 }
 
 impl Form {
     /// The form with these bytes, which are hashed.
-    pub fn of(bytes: Vec<u8>) -> Form
-        ensures { result ≡ bytes.items }
+    pub fn of(alloc: Global, bytes: Vec<u8>) -> Result<Form, AllocError>
+        ensures { IfOk result (λ form. form ≡ bytes.items) }
     {
         let sum = sum(bytes.as_slice());
-        Form { bytes, sum }
+        let bytes = Arc::new(alloc, bytes)?;
+        Ok(Form { bytes, sum })
     }
 
     /// The form of a local file with these contents, whose hash is known. Nothing is hashed.
@@ -47,6 +50,7 @@ impl Form {
         ensures { IfOk result (λ form. form ≡ spelling (record { attributes = 0x20 }) contents.now) }
     {
         let bytes = marshal(alloc, LOCAL, contents)?;
+        let bytes = Arc::new(alloc, bytes)?;
         Ok(Form { bytes, sum })
     }
 
@@ -64,11 +68,11 @@ impl Form {
         self.sum
     }
 
-    /// The same form in memory of its own. Nothing is hashed.
-    pub fn copy(&self, alloc: Global) -> Result<Form, AllocError>
+    /// The same form, which shares its bytes and takes no memory.
+    pub fn copy(&self) -> Result<Form, AllocError>
         ensures { IfOk result (λ form. form ≡ self.now) }
     {
-        let bytes = Vec::from_slice(alloc, self.bytes.as_slice())?;
+        let bytes = Arc::try_clone(&self.bytes)?;
         Ok(Form {
             bytes,
             sum: self.sum,
