@@ -265,6 +265,23 @@ impl Book {
         }
     }
 
+    /// Takes the memory that a command whose condition holds needs, and does it: the condition isn't
+    /// tested again. After an error the state is as it was.
+    pub fn do_allowed(&mut self, alloc: Global, cmd: BookCmd) -> Result<(), VectorError>
+        requires { is_allowed cmd self.old.state ≡ true }
+        ensures ok { OnOk result (IsStep cmd self.old.state self.new.state) }
+        ensures full { IfErr result (λ e. IsFull e cmd self.old.state) }
+        ensures err { OnErr result (self.new.state ≡ self.old.state) }
+    {
+        let merged = self.make_room(alloc, &cmd)?;
+        let put = self.update_to_put(alloc, &cmd)?;
+        let form = form_to_stage(alloc, &cmd)?;
+        self.records.reserve(alloc)?;
+        self.staged.reserve(alloc)?;
+        self.change(cmd, put, form, merged);
+        Ok(())
+    }
+
     /// Consumes the journal record with this USN, which makes this update, if any. After an error
     /// the state is as it was.
     pub fn record_local(
