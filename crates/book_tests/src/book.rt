@@ -1,5 +1,6 @@
 // What no contract says: that the calls succeed, and books written out by hand.
-use frs_base::{Bytes, Guid, Gvsn, MemberKind, Name, Phase, Sum, Uid, content_set, database_of};
+use frs_base::{Guid, Gvsn, MemberKind, Name, Phase, Sum, Uid, content_set, database_of};
+use marshal_form::Form;
 use record_db::{Book, BookCmd};
 use std::alloc::Global;
 use std::process::Abort;
@@ -57,8 +58,9 @@ fn book() -> Book {
 }
 
 /// A form of one byte.
-fn form(alloc: Global, number: u64) -> Result<Bytes, Fail> {
-    Ok(Bytes::of(Vec::from_array(alloc, [(number % 256) as u8])?))
+fn form(alloc: Global, number: u64) -> Result<Form, Fail> {
+    let bytes = Vec::from_array(alloc, [(number % 256) as u8])?;
+    Ok(Form::of(alloc, bytes)?)
 }
 
 /// The numbers of a line, parted by spaces.

@@ -1,6 +1,7 @@
 // What no contract says: that a book is pinned and that what it then does leaves the pinned state;
 // and a body read by hand.
-use frs_base::{Bytes, Gvsn, MemberKind, Name, Sum, Uid, content_set, database_of};
+use frs_base::{Gvsn, MemberKind, Name, Sum, Uid, content_set, database_of};
+use marshal_form::Form;
 use pinned_pages::{Body, Pinned};
 use record_db::Book;
 use std::alloc::Global;
@@ -153,7 +154,7 @@ fn a_page_has_what_is_asked_for_and_was_pinned(rt: HostRuntime) -> Result<(), Fa
 #[test]
 fn a_body_is_read_piece_by_piece(rt: HostRuntime) -> Result<(), Fail> {
     let bytes = Vec::from_slice(rt.alloc(), b"0123456789")?;
-    let body = Body::of(Bytes::of(bytes));
+    let body = Body::of(Form::of(rt.alloc(), bytes)?);
     assert_eq!(rt; body.length(), 10);
     for (at, count, wanted) in [
         (0, 4, b"0123"),

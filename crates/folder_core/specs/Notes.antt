@@ -1,5 +1,5 @@
 -- Events and replies as a history keeps them: contents are known by their sum alone, and what was pinned by its vector.
-use Rattle.std.specs.Prelude.{ℕ, List, option_map}
+use Rattle.std.specs.Prelude.{ℕ, List, None, Option, Some, option_map}
 use Rattle.frs_base.specs.declared.kind.Kind.TheVariants as kind
 use Rattle.frs_base.specs.declared.sum.Sum.{Sum}
 use Rattle.sha1.specs.Sha1.{sha1}
@@ -41,6 +41,23 @@ note_of (event.File uid) = note.File uid
 note_of (event.Adopt from at update form) = note.Adopt from at update (option_map form_sum form)
 note_of (event.Finish from at sent seen) = note.Finish from at sent seen
 note_of event.Install = note.Install
+
+-- the sum of the contents that a local operation brings
+abbrev pub local_noted_sum : LocalNote → Option Sum
+local_noted_sum (local.Put path sum) = Some sum
+local_noted_sum (local.Mkdir path) = None
+local_noted_sum (local.Move from to) = None
+local_noted_sum (local.Remove path) = None
+
+-- the same of an event
+abbrev pub noted_sum : Note → Option Sum
+noted_sum (note.Local operation) = local_noted_sum operation
+noted_sum (note.Consume moment) = None
+noted_sum note.Vector = None
+noted_sum (note.File uid) = None
+noted_sum (note.Adopt from at update form) = None
+noted_sum (note.Finish from at sent seen) = None
+noted_sum note.Install = None
 
 -- an answer about a file
 abbrev pub file_mark_of : FileAnswer → FileMark

@@ -1,5 +1,6 @@
 // What may come to a member.
-use frs_base::{Bytes, Guid, List, Uid};
+use frs_base::{Guid, List, Uid};
+use marshal_form::Form;
 use version_vector::Vector;
 use vol_state::LocalOp;
 use win_order::Update;
@@ -26,7 +27,7 @@ pub enum Event {
         from: Guid,
         at: u64,
         update: Update,
-        form: Option<Bytes>,
+        form: Option<Form>,
     },
     /// A round is finished over the vector that the member of the database `from` sent in the entry
     /// `at` of its history; `seen` are the updates of its pages.

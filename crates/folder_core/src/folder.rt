@@ -100,7 +100,8 @@ impl Folder {
         let at = length as u64 + 1;
         let note = Note::of(alloc, &event)?;
         self.history.reserve_one(alloc)?;
-        let Answer { reply, mark, moved } = self.machine.answer(alloc, at, event)?;
+        let sum = note.sum();
+        let Answer { reply, mark, moved } = self.machine.answer(alloc, at, event, sum)?;
         self.generation = generation_after(moved, at, self.generation);
         self.history.push(Entry {
             caller,

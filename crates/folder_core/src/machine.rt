@@ -4,6 +4,7 @@ ghost use Rattle.frs_base.specs.Identifiers.{content_set};
 ghost use Rattle.folder_core.specs.Answers.{Answers};
 ghost use Rattle.folder_core.specs.Given.{IsNoted};
 ghost use Rattle.folder_core.specs.Machine.{fresh_machine};
+ghost use Rattle.folder_core.specs.Notes.{note_of, noted_sum};
 ghost use Rattle.folder_core.specs.Sound.{IsSound};
 
 mod adopt;
@@ -16,7 +17,7 @@ mod serve;
 
 use crate::Event;
 use crate::answer::Answer;
-use frs_base::{Guid, MemberKind};
+use frs_base::{Guid, MemberKind, Sum};
 use record_db::Book;
 use std::alloc::{AllocError, Global};
 use std::marker::Model;
@@ -71,20 +72,23 @@ impl Machine {
         &self.book
     }
 
-    /// An event, whose entry is at this place. After an error the machine is as it was.
+    /// An event, whose entry is at this place, with the sum of the contents that a local operation
+    /// brings. After an error the machine is as it was.
     pub(crate) fn answer(
         &mut self,
         alloc: Global,
         at: u64,
         event: Event,
+        sum: Option<Sum>,
     ) -> Result<Answer, AllocError>
-        requires { self.old.volume.next_usn < 2 ^ 64 - 1 }
+        requires numbers { self.old.volume.next_usn < 2 ^ 64 - 1 }
+        requires sum { sum ≡ noted_sum (note_of event) }
         ensures answers { IfOk result (λ answer. Answers at self.old event answer.reply self.new) }
         ensures noted { IfOk result (λ answer. IsNoted answer self.old self.new) }
         ensures err { OnErr result (self.new ≡ self.old) }
     {
         match event {
-            Event::Local(operation) => self.local(alloc, operation),
+            Event::Local(operation) => self.local(alloc, operation, sum),
             Event::Consume { moment } => self.consume(alloc, moment),
             Event::Vector => self.vector(alloc, at),
             Event::File { uid } => self.file(alloc, at, &uid),

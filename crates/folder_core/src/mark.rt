@@ -2,19 +2,18 @@
 ghost use Rattle.std.specs.Prelude.{◌≡◌, IfOk};
 ghost use Rattle.folder_core.specs.Notes.{file_mark_of};
 
-use crate::Refusal;
+use crate::{KeptUpdate, Refusal};
 use frs_base::Gvsn;
 use name_rules::Step;
 use pinned_pages::FileAnswer;
 use std::alloc::{AllocError, Global};
 use version_vector::Vector;
-use win_order::Update;
 
 /// What a member answered of a file.
-#[derive(Debug, Drop, PartialEq, Eq)]
+#[derive(Debug, Drop)]
 pub enum FileMark {
     /// Its record, as of the entry `at` of the history.
-    Found { at: u64, update: Update },
+    Found { at: u64, update: KeptUpdate },
     /// The journal record with this USN is to be consumed first.
     NotYet { usn: u64 },
     /// There is no record of it.
@@ -49,8 +48,8 @@ pub enum Mark {
 }
 
 impl FileMark {
-    /// The mark of an answer, which takes no memory.
-    pub(crate) fn of(answer: &FileAnswer) -> Result<FileMark, AllocError>
+    /// The mark of an answer.
+    pub(crate) fn of(alloc: Global, answer: &FileAnswer) -> Result<FileMark, AllocError>
         ensures { IfOk result (λ mark. mark ≡ file_mark_of answer.now) }
     {
         Ok(match answer {
@@ -60,7 +59,7 @@ impl FileMark {
                 body: _,
             } => FileMark::Found {
                 at: *at,
-                update: update.copy()?,
+                update: KeptUpdate::of(alloc, update)?,
             },
             FileAnswer::NotYet { usn } => FileMark::NotYet { usn: *usn },
             FileAnswer::NoRecord => FileMark::NoRecord,

@@ -1,10 +1,11 @@
 // Events as a history keeps them.
 ghost use Rattle.std.specs.Prelude.{◌≡◌, IfOk};
-ghost use Rattle.folder_core.specs.Notes.{form_sum, local_note_of, note_of};
+ghost use Rattle.folder_core.specs.Notes.{form_sum, local_note_of, note_of, noted_sum};
 
-use crate::Event;
 use crate::copies::{copy_names, copy_updates};
-use frs_base::{Bytes, Guid, Kind, List, Name, Sum, Uid};
+use crate::{Event, KeptUpdate};
+use frs_base::{Guid, Kind, List, Name, Sum, Uid};
+use marshal_form::Form;
 use std::alloc::{AllocError, Global};
 use version_vector::Vector;
 use vol_state::{LocalOp, content_sum};
@@ -42,7 +43,7 @@ pub enum Note {
     Adopt {
         from: Guid,
         at: u64,
-        update: Update,
+        update: KeptUpdate,
         form: Option<Sum>,
     },
     /// A round over the vector that the member of the database `from` sent in the entry `at` of its
@@ -58,10 +59,10 @@ pub enum Note {
 }
 
 /// The sum of a form.
-fn form_sum(form: &Bytes) -> Sum
+fn form_sum(form: &Form) -> Sum
     ensures { result ≡ form_sum form.now }
 {
-    Sum(marshal_form::sum(form.as_slice()))
+    Sum(form.sum())
 }
 
 impl LocalNote {
@@ -111,6 +112,22 @@ impl LocalNote {
 }
 
 impl Note {
+    /// The sum of the contents that a local operation brings.
+    pub(crate) fn sum(&self) -> Option<Sum>
+        ensures { result ≡ noted_sum self.now }
+    {
+        match self {
+            Note::Local(LocalNote::Put { path: _, sum }) => Some(*sum),
+            Note::Local(_)
+            | Note::Consume { .. }
+            | Note::Vector
+            | Note::File { .. }
+            | Note::Adopt { .. }
+            | Note::Finish { .. }
+            | Note::Install => None,
+        }
+    }
+
     /// The note of an event.
     pub(crate) fn of(alloc: Global, event: &Event) -> Result<Note, AllocError>
         ensures { IfOk result (λ note. note ≡ note_of event.now) }
@@ -128,7 +145,7 @@ impl Note {
             } => Note::Adopt {
                 from: *from,
                 at: *at,
-                update: update.copy()?,
+                update: KeptUpdate::of(alloc, update)?,
                 form: form.as_ref().map(form_sum),
             },
             Event::Finish {

@@ -6,7 +6,7 @@ use folder_core::{Event, Folder, LocalNote, Note, Reply};
 use frs_base::{
     Bytes, Guid, Gvsn, List, MemberKind, Name, Phase, Sum, Uid, content_set, database_of,
 };
-use marshal_form::{LOCAL, Meta, marshal};
+use marshal_form::{Form, LOCAL, Meta, marshal};
 use name_rules::{Step, Subject};
 use pinned_pages::{Body, FileAnswer};
 use std::alloc::Global;
@@ -77,23 +77,23 @@ fn hi_form(alloc: Global) -> Result<Vec<u8>, Fail> {
 
 /// The form that comes with an update: one of `hi`, or none with `bare`; with other attributes with
 /// `hidden`, without its last byte with `short`, and of other contents with `other`.
-fn form_of(alloc: Global, word: &str) -> Result<Option<Bytes>, Fail> {
+fn form_of(alloc: Global, word: &str) -> Result<Option<Form>, Fail> {
     if word == "bare" {
         return Ok(None);
     }
     if word == "hidden" {
         let form = marshal(alloc, Meta { attributes: 0x22 }, b"hi")?;
-        return Ok(Some(Bytes::of(form)));
+        return Ok(Some(Form::of(alloc, form)?));
     }
     if word == "other" {
         let form = marshal(alloc, LOCAL, b"ho")?;
-        return Ok(Some(Bytes::of(form)));
+        return Ok(Some(Form::of(alloc, form)?));
     }
     let mut form = hi_form(alloc)?;
     if word == "short" {
         form.pop();
     }
-    Ok(Some(Bytes::of(form)))
+    Ok(Some(Form::of(alloc, form)?))
 }
 
 /// An update of this file, made by this version at this clock; the word says of what: a `directory`, a
@@ -125,7 +125,7 @@ fn update_of(alloc: Global, word: &str, gvsn: Gvsn, uid: Uid, clock: u64) -> Res
     })
 }
 
-fn adopt(update: Update, form: Option<Bytes>) -> Event
+fn adopt(update: Update, form: Option<Form>) -> Event
     ensures { IsEarlyEvent result }
 {
     Event::Adopt {
@@ -556,7 +556,7 @@ fn object_sum(folder: &Folder) -> Option<Sum> {
 /// Adopts an update that comes with the form `form`.
 fn adopt_form(alloc: Global, folder: &mut Folder) -> Result<String, Fail> {
     let update = update_of(alloc, "file", version_of(2, 9), file_of(2, 9), 10)?;
-    let form = Bytes::of(Vec::from_slice(alloc, b"form")?);
+    let form = Form::of(alloc, Vec::from_slice(alloc, b"form")?)?;
     answered(alloc, folder, adopt(update, Some(form)))
 }
 

@@ -7,9 +7,11 @@
 //!
 //! [`head`] and [`sum`] are for what is kept of a form: its first bytes, and the hash of it all.
 //! [`local_sum`] is that hash for the contents of a local file, whose form needn't be made.
+//! [`Form`] is a form that keeps its hash.
 #![tactic(auto)]
 
 mod errors;
+mod form;
 mod laws;
 mod layout;
 mod marshalling;
@@ -18,6 +20,7 @@ mod summing;
 mod unmarshalling;
 
 pub use errors::MarshalBad;
+pub use form::Form;
 pub use laws::{
     bad_places_are_one, every_other_has_a_bad_place, forms_are_spellings, forms_have_no_bad_place,
     forms_have_one_value, local_bad_places_are_one, local_forms_have_no_bad_place,

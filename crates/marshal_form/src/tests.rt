@@ -159,6 +159,16 @@ fn contents_have_the_sum_of_their_form(rt: HostRuntime) {
     assert_eq!(rt; local_sum(b""), EMPTY_SUM);
 }
 
+/// A form keeps the sum of its bytes, whether it was hashed or was known.
+#[test]
+fn forms_keep_their_sum(rt: HostRuntime) -> Result<(), Fail> {
+    let form = Form::of(rt.alloc(), Vec::from_slice(rt.alloc(), &HI)?)?;
+    let local = Form::of_local(rt.alloc(), b"hi", local_sum(b"hi"))?.copy()?;
+    assert_eq!(rt; (form.as_slice(), form.sum()), (HI.as_slice(), HI_SUM));
+    assert_eq!(rt; (local.as_slice(), local.sum()), (HI.as_slice(), HI_SUM));
+    Ok(())
+}
+
 #[test]
 fn heads_begin_forms(rt: HostRuntime) -> Result<(), Fail> {
     assert_eq!(rt; head(2).as_slice(), &HI[..44]);

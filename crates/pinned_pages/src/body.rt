@@ -1,15 +1,15 @@
 // What is sent of a file.
 ghost use Rattle.std.specs.Prelude.{◌≡◌, ◌-◌, ◌++◌, ◌+◌, drop, length, min, slice_range};
 
-use frs_base::Bytes;
+use marshal_form::Form;
 use std::marker::Model;
 
-/// The marshalled form of a file, to be read piece by piece.
+/// The marshalled form of a file with its hash, to be read piece by piece.
 ///
 /// A contract sees its bytes.
 #[derive(Debug, Drop)]
 pub struct Body {
-    form: Bytes,
+    form: Form,
 }
 
 impl Model for Body {
@@ -22,7 +22,7 @@ impl Model for Body {
 
 impl Body {
     /// The body that has these bytes.
-    pub fn of(form: Bytes) -> Body
+    pub fn of(form: Form) -> Body
         ensures { result ≡ form }
     {
         Body { form }
@@ -51,7 +51,7 @@ impl Body {
     }
 
     /// The whole form.
-    pub fn into_form(self) -> Bytes
+    pub fn into_form(self) -> Form
         ensures { result ≡ self }
     {
         let Body { form } = self;
@@ -70,7 +70,7 @@ impl PartialEq for Body {
     ghost laws = { lists_per (Prim.search (comparing, rules)) };
 
     fn eq(&self, other: &Body) -> bool {
-        self.form == other.form
+        self.form.as_slice() == other.form.as_slice()
     }
 }
 

@@ -1,7 +1,12 @@
 -- What is staged of a file, and of the others.
 use Rattle.std.proofs.Common.{◌≡◌, ◌⊎◌, ◌<◌, ◌≤◌, ◌+◌, ℕ, zero, suc, Bool, true, false, cond, List, [], ◌∷◌, ◌++◌, length, get_or, refl, sym, ap, ◌∙◌, subst, inl, inr, Option, Some, None, arith, option_map}
-use Rattle.std.specs.Prelude.{find, insert, remove}
-use Rattle.std.specs.List.{AllByRecursion, filter, prefix_len}
+use Rattle.std.specs.Prelude.{find}
+use Rattle.std.specs.List.{AllByRecursion, filter}
+use Rattle.std.specs.Ordering.{is_eq, match_ordering}
+use Rattle.std.specs.declared.cmp.Ordering.{Ordering}
+use Rattle.std.specs.declared.cmp.Ordering.TheVariants.{Less, Equal, Greater}
+use Rattle.std.specs.Map.{lookup, remove_entry}
+use Rattle.std.specs.BTreeMap.{insert_entry, is_at}
 use Rattle.std.specs.Option.{option_or}
 use Rattle.std.proofs.lemmas.Bool.Decides.{nat_tests}
 use Rattle.std.proofs.lemmas.List.Folds.{find-append}
@@ -9,9 +14,11 @@ use Rattle.frs_base.specs.Versions.{same_uid, uid_lt}
 use Rattle.frs_base.specs.declared.version.Uid.{Uid}
 use Rattle.record_db.specs.declared.staged.Staged.{Staged}
 use Rattle.record_db.specs.Lists.{IsRisingBy}
-use Rattle.record_db.specs.Staged.{staged_with, with_uid}
+use Rattle.frs_pmap.specs.Entries.{IsRising}
+use Rattle.record_db.specs.Maps.{uid_cmp}
+use Rattle.record_db.specs.Staged.{staged_of, staged_with, with_uid}
 use Rattle.record_db.proofs.Keys.{same_uid_is, same_uid_refl, uid_total, uid_trans}
-use Rattle.record_db.proofs.Places.{here, past, place_for}
+use Rattle.record_db.proofs.Maps.{one_uid, uid_above, uid_below, uid_level}
 
 -- ---- the order of UIDs
 
@@ -145,75 +152,81 @@ own_goes uid s staged same above =
     ∙ ap (λ t. lower uid staged ++ cond t (s ∷ higher uid staged) (higher uid staged)) not_high
     ∙ all_higher uid staged (subst (λ i. AllByRecursion (λ v. uid_lt i v.uid ≡ true) staged) is above)
 
--- from a higher file's form on, all stays
-higher_stays : (uid : Uid) (s : Staged) (staged : List Staged) → uid_lt s.uid uid ≡ false → same_uid s.uid uid ≡ false → AllByRecursion (λ v. uid_lt s.uid v.uid ≡ true) staged
-    → staged_with uid None (s ∷ staged) ≡ s ∷ staged
-higher_stays uid s staged not_low other above =
-    let high : uid_lt uid s.uid ≡ true = uid_total s.uid uid not_low other in
-    all_higher uid (s ∷ staged) (high, all_map (λ v. uid_lt s.uid v.uid ≡ true) (λ v. uid_lt uid v.uid ≡ true) (λ v h. uid_trans uid s.uid v.uid high h) staged above)
+-- ---- forms of a map by their files
 
--- without the form at the file's place, if it is the file's
-pub taken_out : (uid : Uid) (staged : List Staged) (at : ℕ) (d : Staged) → IsRisingBy (λ s. s.uid) staged → at ≡ place_for (λ (s : Staged). s.uid) uid staged → at < length staged
-    → same_uid (get_or staged at d).uid uid ≡ true → remove staged at ≡ staged_with uid None staged
-taken_out uid [] at d up is within same = absurd (omega arith)
-taken_out uid (s ∷ staged) at d up is within same = by (uid_lt s.uid uid) refl at is within same (λ k. taken_out uid staged k d up.1)
-  where
-    by : (b : Bool) → uid_lt s.uid uid ≡ b → (at : ℕ) → at ≡ place_for (λ (s : Staged). s.uid) uid (s ∷ staged) → at < length (s ∷ staged) → same_uid (get_or (s ∷ staged) at d).uid uid ≡ true
-        → ((k : ℕ) → k ≡ place_for (λ (s : Staged). s.uid) uid staged → k < length staged → same_uid (get_or staged k d).uid uid ≡ true → remove staged k ≡ staged_with uid None staged)
-        → remove (s ∷ staged) at ≡ staged_with uid None (s ∷ staged)
-    by true low zero is within same rest = absurd (let e = past (λ (s : Staged). s.uid) uid s staged low in omega arith)
-    by true low (suc k) is within same rest = let e = past (λ (s : Staged). s.uid) uid s staged low in ap (λ l. s ∷ l) (rest k (omega arith) (omega arith) same) ∙ sym (lower_first uid s staged low)
-    by false low zero is within same rest = sym (own_goes uid s staged same up.0)
-    by false low (suc k) is within same rest = absurd (let e = here (λ (s : Staged). s.uid) uid s staged low in omega arith)
+abbrev one : Uid × List ℕ → Staged
+one e = record { uid = e.0; form = e.1 }
 
--- all stays, if the form at the place isn't the file's
-pub none_out : (uid : Uid) (staged : List Staged) (at : ℕ) (d : Staged) → IsRisingBy (λ s. s.uid) staged → at ≡ place_for (λ (s : Staged). s.uid) uid staged
-    → (at < length staged → same_uid (get_or staged at d).uid uid ≡ false) → staged ≡ staged_with uid None staged
-none_out uid [] at d up is other = refl
-none_out uid (s ∷ staged) at d up is other = by (uid_lt s.uid uid) refl at is other (λ k. none_out uid staged k d up.1)
-  where
-    by : (b : Bool) → uid_lt s.uid uid ≡ b → (at : ℕ) → at ≡ place_for (λ (s : Staged). s.uid) uid (s ∷ staged) → (at < length (s ∷ staged) → same_uid (get_or (s ∷ staged) at d).uid uid ≡ false)
-        → ((k : ℕ) → k ≡ place_for (λ (s : Staged). s.uid) uid staged → (k < length staged → same_uid (get_or staged k d).uid uid ≡ false) → staged ≡ staged_with uid None staged)
-        → s ∷ staged ≡ staged_with uid None (s ∷ staged)
-    by true low zero is other rest = absurd (let e = past (λ (s : Staged). s.uid) uid s staged low in omega arith)
-    by true low (suc k) is other rest = let e = past (λ (s : Staged). s.uid) uid s staged low in ap (λ l. s ∷ l) (rest k (omega arith) (λ within. other (omega arith))) ∙ sym (lower_first uid s staged low)
-    by false low zero is other rest = sym (higher_stays uid s staged low (other (omega arith)) up.0)
-    by false low (suc k) is other rest = absurd (let e = here (λ (s : Staged). s.uid) uid s staged low in omega arith)
+-- what is above a key stands above it
+high_staged : (uid : Uid) (es : List (Uid × List ℕ)) → AllByRecursion (λ e. uid_cmp uid e.0 ≡ Less) es → AllByRecursion (λ s. uid_lt uid s.uid ≡ true) (staged_of es)
+high_staged uid [] a = tt
+high_staged uid (e ∷ es) a = (uid_below uid e.0 a.0, high_staged uid es a.1)
 
--- all stays, if no form is at the place
-pub none_beyond : (uid : Uid) (staged : List Staged) (at : ℕ) → IsRisingBy (λ s. s.uid) staged → at ≡ place_for (λ (s : Staged). s.uid) uid staged → length staged ≤ at → staged ≡ staged_with uid None staged
-none_beyond uid [] at up is beyond = refl
-none_beyond uid (s ∷ staged) at up is beyond = none_out uid (s ∷ staged) at s up is (λ within. absurd (omega arith))
-
--- ---- putting in
-
--- those that pass come first, and their number is the place
-place_between : {X : Type 0} (p q : X → Bool) → ((x : X) → q x ≡ true → p x ≡ false) → (xs ys : List X) → prefix_len p (filter p xs ++ filter q ys) ≡ length (filter p xs)
-place_between {X = X} p q apart [] ys = none ys
-  where
-    none : (ys : List X) → prefix_len p (filter q ys) ≡ 0
-    none [] = refl
-    none (y ∷ ys) = by (q y) refl (none ys)
-      where
-        by : (b : Bool) → q y ≡ b → prefix_len p (filter q ys) ≡ 0 → prefix_len p (cond b (y ∷ filter q ys) (filter q ys)) ≡ 0
-        by true e rest = ap (λ b. cond b (1 + prefix_len p (filter q ys)) 0) (apart y e)
-        by false e rest = rest
-place_between p q apart (x ∷ xs) ys = by (p x) refl (place_between p q apart xs ys)
-  where
-    by : (b : Bool) → p x ≡ b → prefix_len p (filter p xs ++ filter q ys) ≡ length (filter p xs) → prefix_len p (cond b (x ∷ filter p xs) (filter p xs) ++ filter q ys) ≡ length (cond b (x ∷ filter p xs) (filter p xs))
-    by true e rest = let step = ap (λ b. cond b (1 + prefix_len p (filter p xs ++ filter q ys)) 0) e in omega (arith, step, rest)
-    by false e rest = rest
-
-insert_between : {X : Type 0} (x : X) (xs ys : List X) → insert (xs ++ ys) (length xs) x ≡ xs ++ x ∷ ys
-insert_between x [] ys = refl
-insert_between x (y ∷ xs) ys = ap (λ l. y ∷ l) (insert_between x xs ys)
-
-pub put_in : (uid : Uid) (form : List ℕ) (staged : List Staged) (at : ℕ) → at ≡ place_for (λ (s : Staged). s.uid) uid (staged_with uid None staged)
-    → insert (staged_with uid None staged) at (record { uid = uid; form = form }) ≡ staged_with uid (Some form) staged
-put_in uid form staged at is =
+-- where all is of higher files, the form comes first
+first_staged : (uid : Uid) (form : List ℕ) (staged : List Staged) → AllByRecursion (λ s. uid_lt uid s.uid ≡ true) staged → staged_with uid (Some form) staged ≡ record { uid = uid; form = form } ∷ staged
+first_staged uid form staged a =
     let s : Staged = record { uid = uid; form = form } in
-    let between : at ≡ length (lower uid staged) = is ∙ place_between (λ s. uid_lt s.uid uid) (λ s. uid_lt uid s.uid) (λ s high. lower_not_higher uid s.uid high) staged staged in
-    ap (λ k. insert (staged_with uid None staged) k s) between ∙ insert_between s (lower uid staged) (higher uid staged)
+    ap (λ l. l ++ s ∷ higher uid staged) (keeps_none (λ s. uid_lt s.uid uid) staged (all_map (λ s. uid_lt uid s.uid ≡ true) (λ s. uid_lt s.uid uid ≡ false) (λ s h. lower_not_higher uid s.uid h) staged a))
+    ∙ ap (λ l. s ∷ l) (keeps_all (λ s. uid_lt uid s.uid) staged a)
+
+-- the form takes the place of the file's own
+own_replaced : (uid : Uid) (form : List ℕ) (s : Staged) (staged : List Staged) → s.uid ≡ uid → AllByRecursion (λ v. uid_lt uid v.uid ≡ true) staged
+    → staged_with uid (Some form) (s ∷ staged) ≡ record { uid = uid; form = form } ∷ staged
+own_replaced uid form s staged is above =
+    let n : Staged = record { uid = uid; form = form } in
+    let not_low : uid_lt s.uid uid ≡ false = subst (λ i. uid_lt s.uid i ≡ false) is (not_lower_itself s.uid) in
+    let not_high : uid_lt uid s.uid ≡ false = subst (λ i. uid_lt i s.uid ≡ false) is (not_lower_itself s.uid) in
+    ap (λ t. cond t (s ∷ lower uid staged) (lower uid staged) ++ n ∷ higher uid (s ∷ staged)) not_low
+    ∙ ap (λ t. lower uid staged ++ n ∷ cond t (s ∷ higher uid staged) (higher uid staged)) not_high
+    ∙ first_staged uid form staged above
+
+-- a lower file's form stays in front
+lower_before : (uid : Uid) (form : List ℕ) (s : Staged) (staged : List Staged) → uid_lt s.uid uid ≡ true → staged_with uid (Some form) (s ∷ staged) ≡ s ∷ staged_with uid (Some form) staged
+lower_before uid form s staged low =
+    let n : Staged = record { uid = uid; form = form } in
+    ap (λ t. cond t (s ∷ lower uid staged) (lower uid staged) ++ n ∷ higher uid (s ∷ staged)) low
+    ∙ ap (λ t. s ∷ lower uid staged ++ n ∷ cond t (s ∷ higher uid staged) (higher uid staged)) (lower_not_higher s.uid uid low)
+
+above_trans : (uid : Uid) (k : Uid) (es : List (Uid × List ℕ)) → uid_lt uid k ≡ true → AllByRecursion (λ s. uid_lt k s.uid ≡ true) (staged_of es) → AllByRecursion (λ s. uid_lt uid s.uid ≡ true) (staged_of es)
+above_trans uid k es low a = all_map (λ s. uid_lt k s.uid ≡ true) (λ s. uid_lt uid s.uid ≡ true) (λ s h. uid_trans uid k s.uid low h) (staged_of es) a
+
+pub find_kept : (uid : Uid) (es : List (Uid × List ℕ)) → lookup (is_at (uid_cmp uid)) es ≡ option_map (λ s. s.form) (find (λ s. same_uid s.uid uid) (staged_of es))
+find_kept uid [] = refl
+find_kept uid (e ∷ es) =
+    ap (λ b. cond b (Some e.1) (lookup (is_at (uid_cmp uid)) es)) (uid_level uid e.0)
+    ∙ ap (λ l. cond (same_uid e.0 uid) (Some e.1) l) (find_kept uid es) ∙ push (same_uid e.0 uid)
+  where
+    push : (b : Bool) → cond b (Some e.1) (option_map (λ s. s.form) (find (λ s. same_uid s.uid uid) (staged_of es))) ≡ option_map (λ s. s.form) (cond b (Some (one e)) (find (λ s. same_uid s.uid uid) (staged_of es)))
+    push true = refl
+    push false = refl
+
+pub put_kept : (uid : Uid) (form : List ℕ) (es : List (Uid × List ℕ)) → IsRising uid_cmp es → staged_of (insert_entry uid_cmp es uid form) ≡ staged_with uid (Some form) (staged_of es)
+put_kept uid form [] up = refl
+put_kept uid form (e ∷ es) up = by (uid_cmp uid e.0) refl (put_kept uid form es up.1)
+  where
+    by : (r : Ordering) → uid_cmp uid e.0 ≡ r → staged_of (insert_entry uid_cmp es uid form) ≡ staged_with uid (Some form) (staged_of es)
+        → staged_of (match_ordering r ((uid, form) ∷ e ∷ es) ((e.0, form) ∷ es) (e ∷ insert_entry uid_cmp es uid form)) ≡ staged_with uid (Some form) (one e ∷ staged_of es)
+    by Less c rest =
+        let low = uid_below uid e.0 c in
+        sym (first_staged uid form (one e ∷ staged_of es) (low, above_trans uid e.0 es low (high_staged e.0 es up.0)))
+    by Equal c rest =
+        let is : e.0 ≡ uid = one_uid uid e.0 c in
+        ap (λ (k : Uid). record { uid = k; form = form } ∷ staged_of es) is
+        ∙ sym (own_replaced uid form (one e) (staged_of es) is (subst (λ (k : Uid). AllByRecursion (λ v. uid_lt k v.uid ≡ true) (staged_of es)) is (high_staged e.0 es up.0)))
+    by Greater c rest = ap (λ l. one e ∷ l) rest ∙ sym (lower_before uid form (one e) (staged_of es) (uid_above uid e.0 c))
+
+pub cut_kept : (uid : Uid) (es : List (Uid × List ℕ)) → IsRising uid_cmp es → staged_of (remove_entry (is_at (uid_cmp uid)) es) ≡ staged_with uid None (staged_of es)
+cut_kept uid [] up = refl
+cut_kept uid (e ∷ es) up = by (uid_cmp uid e.0) refl (cut_kept uid es up.1)
+  where
+    by : (r : Ordering) → uid_cmp uid e.0 ≡ r → staged_of (remove_entry (is_at (uid_cmp uid)) es) ≡ staged_with uid None (staged_of es)
+        → staged_of (cond (is_eq r) es (e ∷ remove_entry (is_at (uid_cmp uid)) es)) ≡ staged_with uid None (one e ∷ staged_of es)
+    by Less c rest =
+        let low = uid_below uid e.0 c in
+        let above = above_trans uid e.0 es low (high_staged e.0 es up.0) in
+        ap (λ l. one e ∷ l) (rest ∙ all_higher uid (staged_of es) above) ∙ sym (all_higher uid (one e ∷ staged_of es) (low, above))
+    by Equal c rest = sym (own_goes uid (one e) (staged_of es) (sym (uid_level uid e.0) ∙ ap is_eq c) (high_staged e.0 es up.0))
+    by Greater c rest = ap (λ l. one e ∷ l) rest ∙ sym (lower_first uid (one e) (staged_of es) (uid_above uid e.0 c))
 
 -- ---- what is found
 

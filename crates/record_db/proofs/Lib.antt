@@ -3,7 +3,6 @@ pub mod Sets
 pub mod Best
 pub mod Lists
 pub mod Maps
-pub mod Places
 pub mod Forms
 pub mod Kept
 pub mod Standing

@@ -35,20 +35,23 @@ gvsns_are_ordered = then_total (on_total (λ (g : Gvsn). g.db) nat_cmp_total) (o
 uid_tests : (a b : Uid) {X : Type 0} (low same high : X) → match_ordering (uid_cmp a b) low same high ≡ cond (uid_lt b a) high (cond (same_uid b a) same low)
 uid_tests a b low same high = grind (arith, nat_tests)
 
-uid_level : (a b : Uid) → is_eq (uid_cmp a b) ≡ same_uid b a
+pub uid_level : (a b : Uid) → is_eq (uid_cmp a b) ≡ same_uid b a
 uid_level a b = grind (arith, nat_tests)
 
 gvsn_level : (a b : Gvsn) → is_eq (gvsn_cmp a b) ≡ same_gvsn b a
 gvsn_level a b = grind (arith, nat_tests)
 
-one_uid : (a b : Uid) → uid_cmp a b ≡ Equal → b ≡ a
+pub one_uid : (a b : Uid) → uid_cmp a b ≡ Equal → b ≡ a
 one_uid a b e = same_uid_is b a (sym (uid_level a b) ∙ ap is_eq e)
 
 one_gvsn : (a b : Gvsn) → gvsn_cmp a b ≡ Equal → b ≡ a
 one_gvsn a b e = same_gvsn_is b a (sym (gvsn_level a b) ∙ ap is_eq e)
 
-uid_below : (a b : Uid) → uid_cmp a b ≡ Less → uid_lt a b ≡ true
+pub uid_below : (a b : Uid) → uid_cmp a b ≡ Less → uid_lt a b ≡ true
 uid_below a b e = grind (arith, nat_tests)
+
+pub uid_above : (a b : Uid) → uid_cmp a b ≡ Greater → uid_lt b a ≡ true
+uid_above a b e = grind (arith, nat_tests)
 
 gvsn_below : (a b : Gvsn) → gvsn_cmp a b ≡ Less → gvsn_lt a b ≡ true
 gvsn_below a b e = grind (arith, nat_tests)

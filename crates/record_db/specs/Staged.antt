@@ -1,5 +1,5 @@
 -- The forms that are staged, by file.
-use Rattle.std.specs.Prelude.{◌++◌, ℕ, List, Option, None, Some, if◌then◌else◌, option_map, option_to_list}
+use Rattle.std.specs.Prelude.{◌++◌, ℕ, List, Option, None, Some, if◌then◌else◌, map, option_map, option_to_list}
 use Rattle.std.specs.List.{filter}
 use Rattle.frs_base.specs.Versions.{same_uid, uid_lt}
 use Rattle.frs_base.specs.declared.version.Uid.{Uid}
@@ -7,6 +7,10 @@ use Rattle.win_order.specs.declared.update.Update.{Update}
 use Rattle.record_db.specs.declared.command.BookCmd.{BookCmd}
 use Rattle.record_db.specs.declared.command.BookCmd.TheVariants.{RecordLocal, Adopt, Finish, Unstage}
 use Rattle.record_db.specs.declared.staged.Staged.{Staged}
+
+-- the forms of a map by their files
+abbrev pub staged_of : List (Uid × List ℕ) → List Staged
+staged_of es = map (λ e. record { uid = e.0; form = e.1 }) es
 
 -- the map with another value at one file
 abbrev pub with_uid : {X : Type 0} → (Uid → X) → Uid → X → Uid → X
@@ -22,6 +26,13 @@ staged_with uid form staged =
 abbrev pub staged_by : Option Update → Option (List ℕ) → List Staged → List Staged
 staged_by None form staged = staged
 staged_by (Some u) form staged = staged_with u.uid form staged
+
+-- the form that a command brings
+abbrev pub form_brought : BookCmd → Option (List ℕ)
+form_brought (RecordLocal usn update) = None
+form_brought (Adopt u form) = form
+form_brought (Finish sent) = None
+form_brought (Unstage uid) = None
 
 -- what is staged afterwards: a local update leaves nothing of its file
 abbrev pub staged_after : BookCmd → List Staged → List Staged

@@ -20,7 +20,7 @@ use Rattle.record_db.specs.declared.command.BookCmd.TheVariants.{RecordLocal, Ad
 use Rattle.record_db.specs.declared.command.Ready.{Ready}
 use Rattle.record_db.specs.Lists.{put_any}
 use Rattle.record_db.specs.Records.{Versions, both, plus}
-use Rattle.record_db.specs.Staged.{staged_after, staged_by}
+use Rattle.record_db.specs.Staged.{form_brought, staged_after, staged_by}
 use Rattle.record_db.specs.State.{BookState, CoversBelow, IsVector, Seen}
 
 -- a version of the book's own database
@@ -162,9 +162,10 @@ CanCover (Adopt update form) merged book = HasRoomFor update.gvsn book
 CanCover (Finish sent) merged book = IsMerged sent book.state merged
 CanCover (Unstage uid) merged book = Unit {0}
 
--- the command may be taken without memory: the update has some as one of the book's set, and there is room for a record and for a form, and for what is covered
+-- the command may be taken without memory: the update has some as one of the book's set, and the form has some, and there is room for a record and for a form, and for what is covered
 pub record Fits (ready : Ready) (book : Seen) : Type 0 where
   pub put : ready.put ≡ option_map (in_set book.state.set) (update_of ready.cmd)
+  pub form : ready.form ≡ form_brought ready.cmd
   pub room : 0 < book.room
   pub staged_room : 0 < book.staged_room
   pub vector : is_allowed ready.cmd book.state ≡ true → CanCover ready.cmd ready.merged.items book

@@ -7,8 +7,9 @@ mod change;
 
 use crate::Records;
 use crate::record_table::RecordTable;
-use crate::staged::{Staged, find_form};
-use frs_base::{Bytes, Guid, MemberKind, Phase, ReservedVec, Uid};
+use crate::staged::StagedTable;
+use frs_base::{Guid, MemberKind, Phase, Uid};
+use marshal_form::Form;
 use std::alloc::{AllocError, Global};
 use std::marker::Model;
 use version_vector::GrowingVector;
@@ -31,7 +32,7 @@ pub struct Book {
     vector: GrowingVector,
     consumed: u64,
     phase: Phase,
-    staged: ReservedVec<Staged>,
+    staged: StagedTable,
 }
 
 impl Model for Book {
@@ -58,7 +59,7 @@ impl Book {
             vector: GrowingVector::empty(),
             consumed: FIRST_USN,
             phase: Phase::Initial,
-            staged: ReservedVec::empty(),
+            staged: StagedTable::empty(),
         }
     }
 
@@ -113,10 +114,10 @@ impl Book {
     }
 
     /// The form that is staged of a file.
-    pub fn form(&self, uid: Uid) -> Option<&Bytes>
+    pub fn form(&self, uid: Uid) -> Option<&Form>
         ensures { option_copied result ≡ form_of self.now.state uid }
     {
-        find_form(self.staged.as_slice(), uid)
+        self.staged.get(&uid)
     }
 
     /// The records in memory of their own, in order of their UIDs.

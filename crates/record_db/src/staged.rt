@@ -1,64 +1,121 @@
-// Staged forms in order of their files.
-ghost use Rattle.std.specs.Prelude.{◌≡◌, ◌<◌, ◌≤◌, None, find, option_copied, option_map};
-ghost use Rattle.std.specs.List.{prefix_len};
-ghost use Rattle.frs_base.specs.Versions.{same_uid, uid_lt};
-ghost use Rattle.record_db.specs.Lists.{IsRisingBy};
+// Staged forms, found by their files.
+ghost use Rattle.std.specs.Prelude.{◌≡◌, ◌<◌, ◌≤◌, [], None, IfOk, OnOk, find, option_copied, option_map};
+ghost use Rattle.std.specs.Arc.{arc_value};
+ghost use Rattle.frs_base.specs.Versions.{same_uid};
 ghost use Rattle.record_db.specs.Staged.{staged_with};
 
-use frs_base::{Bytes, ReservedVec, Uid};
+use frs_base::Uid;
+use frs_pmap::Table;
+use marshal_form::Form;
+use std::alloc::{AllocError, Global};
+use std::marker::Model;
+use std::sync::Arc;
 
 /// A form that is staged: the marshalled form of the contents that a file is to get, kept until it
 /// is installed.
 #[derive(Debug, Drop)]
 pub struct Staged {
     pub uid: Uid,
-    pub form: Bytes,
+    pub form: Form,
 }
 
-/// How many forms are staged of lower UIDs.
-fn staged_place(staged: &[Staged], uid: &Uid) -> usize
-    requires { IsRisingBy (λ s. s.uid) staged.now }
-    ensures { result ≡ prefix_len (λ s. uid_lt s.uid uid.now) staged.now }
-{
-    staged.partition_point(|s| s.uid < *uid)
+/// A form in memory of its own, to be staged.
+///
+/// A contract sees its bytes.
+#[derive(Drop)]
+pub(crate) struct SharedForm {
+    kept: Arc<Form>,
 }
 
-/// The form that is staged of a file, by binary search among those in order of their files.
-pub(crate) fn find_form(staged: &[Staged], uid: Uid) -> Option<&Bytes>
-    requires { IsRisingBy (λ s. s.uid) staged.now }
-    ensures { option_copied result ≡ option_map (λ s. s.form) (find (λ s. same_uid s.uid uid) staged.now) }
-{
-    let at = staged_place(staged, &uid);
-    if at < staged.len() && staged[at].uid == uid {
-        Some(&staged[at].form)
-    } else {
-        None
+impl Model for SharedForm {
+    ghost use Rattle.std.specs.Prelude.{List, ℕ};
+    ghost use Rattle.std.specs.Arc.{arc_value};
+
+    ghost Value = { List ℕ };
+
+    ghost view = { λ form. arc_value form.kept };
+}
+
+impl SharedForm {
+    /// Takes the memory for a form, whose bytes it shares.
+    pub(crate) fn of(alloc: Global, form: &Form) -> Result<SharedForm, AllocError>
+        ensures { IfOk result (λ shared. shared ≡ form.now) }
+    {
+        let kept = Arc::new(alloc, form.copy()?)?;
+        Ok(SharedForm { kept })
+    }
+
+    /// The form as a table takes it.
+    fn into_kept(self) -> Arc<Form>
+        ensures { arc_value result ≡ self }
+    {
+        let SharedForm { kept } = self;
+        kept
     }
 }
 
-/// What is staged of a file goes.
-pub(crate) fn drop_form(staged: &mut ReservedVec<Staged>, uid: &Uid)
-    requires { IsRisingBy (λ s. s.uid) staged.old.items }
-    ensures items { staged.new.items ≡ staged_with uid.now None staged.old.items }
-    ensures room { staged.old.room ≤ staged.new.room }
-{
-    let held = staged.as_slice();
-    let at = staged_place(held, uid);
-    if at < held.len() && held[at].uid == *uid {
-        let _ = staged.remove(at);
-    }
+/// The forms that are staged.
+///
+/// A contract sees them in order of their files, and for how many more there is room.
+#[derive(Drop)]
+pub(crate) struct StagedTable {
+    forms: Table<Uid, Form>,
 }
 
-/// Stages a form in the place of what is staged of the file, where there is room for it; without a
-/// form nothing is staged of it then.
-pub(crate) fn put_form(staged: &mut ReservedVec<Staged>, uid: Uid, form: Option<Bytes>)
-    requires rising { IsRisingBy (λ s. s.uid) staged.old.items }
-    requires room { 0 < staged.old.room }
-    ensures { staged.new.items ≡ staged_with uid form staged.old.items }
-{
-    drop_form(staged, &uid);
-    if let Some(form) = form {
-        let at = staged_place(staged.as_slice(), &uid);
-        staged.insert(at, Staged { uid, form });
+impl Model for StagedTable {
+    ghost use Rattle.frs_base.specs.Reserved.{Reserved};
+    ghost use Rattle.record_db.specs.declared.staged.Staged.{Staged};
+    ghost use Rattle.record_db.specs.Staged.{staged_of};
+
+    ghost Value = { Reserved Staged };
+
+    ghost view = { λ t. record { items = staged_of t.forms.entries; room = t.forms.room } };
+}
+
+impl StagedTable {
+    /// Nothing staged, in no memory.
+    pub(crate) fn empty() -> StagedTable
+        ensures { result ≡ record { items = []; room = 0 } }
+    {
+        StagedTable {
+            forms: Table::empty(),
+        }
+    }
+
+    /// Takes the memory that one form more may need. The forms stay, also after an error.
+    pub(crate) fn reserve(&mut self, alloc: Global) -> Result<(), AllocError>
+        ensures same { self.new.items ≡ self.old.items }
+        ensures room { OnOk result (0 < self.new.room) }
+    {
+        self.forms.reserve(alloc)
+    }
+
+    /// The form that is staged of a file.
+    pub(crate) fn get(&self, uid: &Uid) -> Option<&Form>
+        ensures { option_copied result ≡ option_map (λ s. s.form) (find (λ s. same_uid s.uid uid.now) self.now.items) }
+    {
+        self.forms.get(uid)
+    }
+
+    /// What is staged of a file goes.
+    pub(crate) fn cut(&mut self, uid: &Uid)
+        ensures items { self.new.items ≡ staged_with uid.now None self.old.items }
+        ensures room { self.old.room ≤ self.new.room }
+    {
+        let _ = self.forms.first();
+        self.forms.cut(uid);
+    }
+
+    /// Stages a form in the place of what is staged of the file, where there is room for it;
+    /// without a form nothing is staged of it then.
+    pub(crate) fn put(&mut self, uid: Uid, form: Option<SharedForm>)
+        requires { 0 < self.old.room }
+        ensures { self.new.items ≡ staged_with uid form self.old.items }
+    {
+        let _ = self.forms.first();
+        match form {
+            None => self.cut(&uid),
+            Some(form) => self.forms.put(uid, form.into_kept()),
+        }
     }
 }

@@ -1,7 +1,8 @@
 // What is done to a volume, its paths and UIDs resolved.
-ghost use Rattle.std.specs.Prelude.{◌≡◌, []};
+ghost use Rattle.std.specs.Prelude.{◌≡◌, [], MatchOption};
+ghost use Rattle.vol_state.specs.Sums.{IsBrought};
 
-use frs_base::{Bytes, Kind, Name, Uid};
+use frs_base::{Bytes, Kind, Name, Sum, Uid};
 use std::marker::Model;
 
 /// A change of a volume. Objects go by their numbers.
@@ -67,34 +68,40 @@ pub enum VolCmd {
 pub struct Ready {
     cmd: VolCmd,
     empty: Bytes,
+    // The sum of the contents that the command brings, where it is known.
+    known: Option<Sum>,
 }
 
 impl Model for Ready {
-    ghost use Rattle.std.specs.Prelude.{◌≡◌, []};
+    ghost use Rattle.std.specs.Prelude.{◌≡◌, [], MatchOption};
+    ghost use Rattle.vol_state.specs.Sums.{IsBrought};
     ghost use Rattle.vol_state.specs.declared.command.VolCmd.{VolCmd};
 
     ghost Value = { VolCmd };
 
     ghost view = { λ ready. ready.cmd };
 
-    ghost invariant = { λ ready. ready.empty ≡ [] };
+    ghost invariant = { λ ready. (ready.empty ≡ []) × MatchOption ready.known (Unit {0}) (IsBrought ready.cmd) };
 }
 
 impl Ready {
-    /// A command beside a list of no bytes, the contents of a directory that it may make.
-    pub(crate) fn of(cmd: VolCmd, empty: Bytes) -> Ready
-        requires { empty ≡ [] }
+    /// A command beside a list of no bytes, the contents of a directory that it may make, and the
+    /// sum of the contents that it brings, where it is known.
+    pub(crate) fn of(cmd: VolCmd, empty: Bytes, known: Option<Sum>) -> Ready
+        requires empty { empty ≡ [] }
+        requires known { MatchOption known (Unit {0}) (IsBrought cmd) }
         ensures { result ≡ cmd }
     {
-        Ready { cmd, empty }
+        Ready { cmd, empty, known }
     }
 
-    /// The command and the list of no bytes.
-    pub(crate) fn into_parts(self) -> (VolCmd, Bytes)
+    /// The command, the list of no bytes, and the sum of the contents, where it is known.
+    pub(crate) fn into_parts(self) -> (VolCmd, Bytes, Option<Sum>)
         ensures command { result.0 ≡ self }
         ensures empty { result.1 ≡ [] }
+        ensures known { MatchOption result.2 (Unit {0}) (IsBrought self) }
     {
-        let Ready { cmd, empty } = self;
-        (cmd, empty)
+        let Ready { cmd, empty, known } = self;
+        (cmd, empty, known)
     }
 }

@@ -3,6 +3,7 @@ ghost use Rattle.std.specs.Prelude.{◌≡◌, true, IfOk, IsOk, Ok, option_copi
 ghost use Rattle.vol_state.specs.declared.operation.LocalOp.TheVariants.{Mkdir, Move, Put, Remove};
 ghost use Rattle.vol_state.specs.Paths.{check, resolve};
 ghost use Rattle.vol_state.specs.Conditions.{is_allowed};
+ghost use Rattle.vol_state.specs.Sums.{IsBrought, file_sum};
 
 use crate::paths::{home, last_name, target};
 use crate::{VolCmd, Volume};
@@ -14,6 +15,7 @@ impl Volume {
     pub fn put(&self, path: &[Name], bytes: Vec<u8>) -> Result<VolCmd, AllocError>
         requires { IsOk (check self.now.state.objects (Put path.now bytes.items)) }
         ensures command { IfOk result (λ cmd. resolve self.now.state.objects (Put path.now bytes.items) ≡ Ok cmd) }
+        ensures sum { IfOk result (λ cmd. IsBrought cmd (file_sum bytes.items)) }
         ensures allowed { IfOk result (λ cmd. is_allowed cmd self.now.state ≡ true) }
     {
         let shelf = self.shelf();

@@ -7,9 +7,11 @@ ghost use Rattle.vol_state.specs.Tree.{AreRising, IsTree};
 ghost use Rattle.frs_base.specs.Options.{some_is};
 ghost use Rattle.vol_state.specs.Conditions.{is_file};
 ghost use Rattle.vol_state.specs.Effects.{at_place, edit, stamp, with_bytes, without};
+ghost use Rattle.vol_state.specs.Sums.{IsKnownOf};
 
-use crate::{Object, content_sum};
-use frs_base::{Bytes, Kind, Name};
+use crate::Object;
+use crate::sums::sum_with;
+use frs_base::{Bytes, Kind, Name, Sum};
 use std::alloc::{AllocError, Global};
 
 /// The index of the first object whose number isn't below this one.
@@ -122,13 +124,21 @@ fn place_at(objects: &mut [Object], fid: u64, place: Option<(u64, Name)>, local:
 }
 
 /// Gives an object contents.
-fn fill_at(objects: &mut [Object], fid: u64, bytes: Bytes, local: bool, usn: u64)
-    requires { AreRising 0 objects.old }
+fn fill_at(
+    objects: &mut [Object],
+    fid: u64,
+    bytes: Bytes,
+    known: Option<Sum>,
+    local: bool,
+    usn: u64,
+)
+    requires rising { AreRising 0 objects.old }
+    requires known { IsKnownOf bytes known }
     ensures { objects.new ≡ edit fid (λ o. stamp local usn (with_bytes bytes o)) objects.old }
 {
     if let Some(at) = index_of(objects, fid) {
         let o = &mut objects[at];
-        o.sum = content_sum(o.kind, &bytes);
+        o.sum = sum_with(o.kind, &bytes, known);
         o.bytes = bytes;
         if local {
             o.last_local = usn;
@@ -203,15 +213,17 @@ pub(crate) fn fill_in(
     objects: &mut Option<Vec<Object>>,
     fid: u64,
     bytes: Bytes,
+    known: Option<Sum>,
     local: bool,
     usn: u64,
 )
-    requires { AreRising 0 (reserved_of objects.old).items }
+    requires rising { AreRising 0 (reserved_of objects.old).items }
+    requires known { IsKnownOf bytes known }
     ensures { (reserved_of objects.new).items ≡ edit fid (λ o. stamp local usn (with_bytes bytes o)) (reserved_of objects.old).items }
 {
     match objects {
         None => {}
-        Some(items) => fill_at(items.as_mut_slice(), fid, bytes, local, usn),
+        Some(items) => fill_at(items.as_mut_slice(), fid, bytes, known, local, usn),
     }
 }
 

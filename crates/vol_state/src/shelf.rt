@@ -5,6 +5,7 @@ ghost use Rattle.vol_state.specs.Places.{child, has_children, object_at};
 ghost use Rattle.vol_state.specs.Tree.{IsTree};
 ghost use Rattle.vol_state.specs.State.{IsOneEach, uid_of};
 ghost use Rattle.vol_state.specs.Effects.{at_place, edit, stamp, with_bytes, without};
+ghost use Rattle.vol_state.specs.Sums.{IsKnownOf};
 
 use crate::Object;
 use crate::hints::Hints;
@@ -12,7 +13,7 @@ use crate::lookups::{child_by, hint_place, hint_uid, object_by};
 use crate::objects::{
     add_to, fill_in, has_children_in, object_at, objects_in, place_in, reserve_in, take_from,
 };
-use frs_base::{Bytes, Guid, Name, Uid};
+use frs_base::{Bytes, Guid, Name, Sum, Uid};
 use std::alloc::{AllocError, Global};
 use std::marker::Model;
 
@@ -138,13 +139,14 @@ impl Shelf {
         place_in(&mut self.objects, fid, place, local, usn);
     }
 
-    /// Gives an object contents. A local change leaves its USN.
-    pub(crate) fn fill(&mut self, fid: u64, bytes: Bytes, local: bool, usn: u64)
+    /// Gives an object contents, whose sum may be known. A local change leaves its USN.
+    pub(crate) fn fill(&mut self, fid: u64, bytes: Bytes, known: Option<Sum>, local: bool, usn: u64)
+        requires known { IsKnownOf bytes known }
         requires tree { IsTree (edit fid (λ o. stamp local usn (with_bytes bytes o)) self.old.items) }
         ensures own { self.new.own ≡ self.old.own }
         ensures items { self.new.items ≡ edit fid (λ o. stamp local usn (with_bytes bytes o)) self.old.items }
     {
-        fill_in(&mut self.objects, fid, bytes, local, usn);
+        fill_in(&mut self.objects, fid, bytes, known, local, usn);
     }
 
     /// Takes an object out.

@@ -1,6 +1,6 @@
 // Sums of contents.
 ghost use Rattle.std.specs.Prelude.{◌≡◌};
-ghost use Rattle.vol_state.specs.Sums.{content_sum, file_sum};
+ghost use Rattle.vol_state.specs.Sums.{IsKnownOf, content_sum, file_sum};
 
 use frs_base::{Bytes, Kind, Sum};
 use marshal_form::local_sum;
@@ -20,5 +20,16 @@ pub fn content_sum(kind: Kind, bytes: &Bytes) -> Sum
     match kind {
         Kind::File => file_sum(bytes),
         Kind::Directory => Sum([0; 20]),
+    }
+}
+
+/// The sum that contents give an object of this kind, taken of them only where a file's isn't known.
+pub(crate) fn sum_with(kind: Kind, bytes: &Bytes, known: Option<Sum>) -> Sum
+    requires { IsKnownOf bytes.now known }
+    ensures { result ≡ content_sum kind bytes.now }
+{
+    match (kind, known) {
+        (Kind::File, Some(sum)) => sum,
+        (Kind::File, None) | (Kind::Directory, _) => content_sum(kind, bytes),
     }
 }

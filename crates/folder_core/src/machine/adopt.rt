@@ -8,14 +8,15 @@ ghost use Rattle.folder_core.specs.Adopt.{AnswersAdopt, ChecksForm, Stages, adop
 ghost use Rattle.folder_core.specs.Given.{IsNoted};
 ghost use Rattle.folder_core.specs.Machine.{is_ahead};
 ghost use Rattle.folder_core.specs.Sound.{IsSound, MayBeStaged};
+ghost use Rattle.folder_core.specs.Notes.{form_sum};
 ghost use Rattle.marshal_form.specs.Local.{local};
 ghost use Rattle.marshal_form.specs.Spelling.{spelling};
 
 use super::Machine;
 use crate::answer::Answer;
 use crate::{Mark, Refusal, Reply};
-use frs_base::{Bytes, Guid, Kind, Sum, Uid};
-use marshal_form::{sum, unmarshal_local};
+use frs_base::{Guid, Kind, Sum, Uid};
+use marshal_form::{Form, unmarshal_local};
 use name_rules::is_file;
 use record_db::BookCmd;
 use std::alloc::{AllocError, Global};
@@ -75,8 +76,9 @@ fn fits(update: &Update)
     let _ = version_of(update);
 }
 
-/// The bytes are the form of a local file, and have this sum.
-fn check_form(form: &[u8], want: Sum) -> Result<(), Refusal>
+/// The bytes, which have this sum, are the form of a local file, and it is the sum that is wanted.
+fn check_form(form: &[u8], got: Sum, want: Sum) -> Result<(), Refusal>
+    requires { got ≡ form_sum form.now }
     ensures checks { ChecksForm form.now want tt result }
     ensures spelled { OnOk result (form.now ≡ spelling local (drop 44 form.now)) }
 {
@@ -84,7 +86,6 @@ fn check_form(form: &[u8], want: Sum) -> Result<(), Refusal>
         let at = bad.at as u64;
         return Err(Refusal::MarshalBad { at });
     }
-    let got = Sum(sum(form));
     if got == want {
         Ok(())
     } else {
@@ -92,13 +93,13 @@ fn check_form(form: &[u8], want: Sum) -> Result<(), Refusal>
     }
 }
 
-/// The bytes of a form; no form is one of no bytes.
-fn bytes_of(alloc: Global, form: Option<Bytes>) -> Bytes
-    ensures { result ≡ unwrap_or form [] }
+/// A form that is given; no form is one of no bytes.
+fn given_form(alloc: Global, form: Option<Form>) -> Result<Form, AllocError>
+    ensures { IfOk result (λ given. given ≡ unwrap_or form []) }
 {
     match form {
-        None => Bytes::of(Vec::new(alloc)),
-        Some(form) => form,
+        None => Form::of(alloc, Vec::new(alloc)),
+        Some(form) => Ok(form),
     }
 }
 
@@ -106,18 +107,18 @@ fn bytes_of(alloc: Global, form: Option<Bytes>) -> Bytes
 fn staged_with(
     alloc: Global,
     update: &Update,
-    form: Option<Bytes>,
-) -> Result<Option<Bytes>, Refusal>
-    ensures stages { Stages update.now form result }
-    ensures spelled { IfOk result MayBeStaged }
+    form: Option<Form>,
+) -> Result<Result<Option<Form>, Refusal>, AllocError>
+    ensures stages { IfOk result (λ staged. Stages update.now form staged) }
+    ensures spelled { IfOk result (λ staged. IfOk staged MayBeStaged) }
 {
     if !is_file(update) {
-        return Ok(None);
+        return Ok(Ok(None));
     }
-    let form = bytes_of(alloc, form);
-    match check_form(form.as_slice(), update.hash) {
-        Err(why) => Err(why),
-        Ok(()) => Ok(Some(form)),
+    let form = given_form(alloc, form)?;
+    match check_form(form.as_slice(), Sum(form.sum()), update.hash) {
+        Err(why) => Ok(Err(why)),
+        Ok(()) => Ok(Ok(Some(form))),
     }
 }
 
@@ -224,7 +225,7 @@ impl Machine {
         &mut self,
         alloc: Global,
         update: Update,
-        form: Option<Bytes>,
+        form: Option<Form>,
     ) -> Result<Answer, AllocError>
         ensures answers { IfOk result (λ answer. AnswersAdopt update form self.old answer.reply self.new) }
         ensures noted { IfOk result (λ answer. IsNoted answer self.old self.new) }
@@ -234,7 +235,8 @@ impl Machine {
             return Ok(Answer::refused(&why));
         }
         fits(&update);
-        match staged_with(alloc, &update, form) {
+        let staged = staged_with(alloc, &update, form)?;
+        match staged {
             Err(why) => Ok(Answer::refused(&why)),
             Ok(form) => {
                 let cmd = BookCmd::Adopt { update, form };

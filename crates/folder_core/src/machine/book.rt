@@ -22,8 +22,7 @@ impl Machine {
         ensures full { IfErr result (λ e. IsTooLong e (covered_after cmd self.old.book)) }
         ensures err { OnErr result (self.new ≡ self.old) }
     {
-        let ready = self.book.ready(alloc, cmd)?;
-        self.book.take(ready);
+        self.book.do_allowed(alloc, cmd)?;
         let _ = self.book.vector();
         Ok(())
     }

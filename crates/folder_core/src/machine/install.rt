@@ -11,8 +11,9 @@ use super::Machine;
 use super::adopt::kind_of;
 use crate::answer::Answer;
 use crate::{Mark, Refusal, Reply};
-use frs_base::{Bytes, Uid};
+use frs_base::Uid;
 use install_plan::next_step;
+use marshal_form::Form;
 use name_rules::{Next, Step};
 use record_db::BookCmd;
 use std::alloc::{AllocError, Global};
@@ -23,7 +24,7 @@ use win_order::Update;
 const HEAD: usize = 44;
 
 /// The contents in a form, in memory of their own; none where there is no form.
-fn contents_in(alloc: Global, form: Option<&Bytes>) -> Result<Vec<u8>, AllocError>
+fn contents_in(alloc: Global, form: Option<&Form>) -> Result<Vec<u8>, AllocError>
     ensures { IfOk result (λ bytes. bytes.items ≡ contents_in (option_copied form.entry)) }
 {
     match form {
@@ -68,7 +69,7 @@ impl Machine {
         ensures err { OnErr result (self.new ≡ self.old) }
     {
         let _ = self.book();
-        self.operate(alloc, cmd)?;
+        self.operate(alloc, cmd, None)?;
         Ok(did(step))
     }
 

@@ -1,19 +1,22 @@
 // Local operations.
-ghost use Rattle.std.specs.Prelude.{◌≡◌, ◌<◌, ◌-◌, ◌^◌, true, IfOk, IsOk, Ok, OnErr, OnOk};
+ghost use Rattle.std.specs.Prelude.{◌≡◌, ◌<◌, ◌-◌, ◌^◌, true, IfOk, IsOk, MatchOption, Ok, OnErr, OnOk};
 ghost use Rattle.vol_state.specs.Conditions.{is_allowed};
 ghost use Rattle.vol_state.specs.Effects.{effect};
 ghost use Rattle.vol_state.specs.Laws.{KeepsNumbering, LeavesNumbersFree};
 ghost use Rattle.vol_state.specs.Maps.{StandsOn, maps_of};
 ghost use Rattle.vol_state.specs.Paths.{check, resolve};
+ghost use Rattle.vol_state.specs.Sums.{IsBrought};
 ghost use Rattle.vol_state.specs.Tables.{IsLocal};
 ghost use Rattle.vol_state.specs.Ways.{ListsResolve, ResolvedMay};
 ghost use Rattle.folder_core.specs.Local.{AnswersLocal};
+ghost use Rattle.folder_core.specs.Notes.{local_note_of, local_noted_sum};
 ghost use Rattle.folder_core.specs.Given.{IsNoted};
 ghost use Rattle.folder_core.specs.Install.{MayOperate};
 
 use super::Machine;
 use crate::answer::Answer;
 use crate::{Mark, Refusal, Reply};
+use frs_base::Sum;
 use std::alloc::{AllocError, Global};
 use vol_state::{
     LocalOp, VolCmd, lists_resolve_as_maps, lists_stand_for_maps, resolved_commands_may_be_done,
@@ -46,6 +49,7 @@ impl Machine {
         requires { IsOk (check self.now.volume.objects operation) }
         ensures command { IfOk result (λ cmd. resolve self.now.volume.objects operation ≡ Ok cmd) }
         ensures allowed { IfOk result (λ cmd. is_allowed cmd self.now.volume ≡ true) }
+        ensures sum { IfOk result (λ cmd. MatchOption (local_noted_sum (local_note_of operation)) (Unit {0}) (IsBrought cmd)) }
     {
         match operation {
             LocalOp::Put { path, bytes } => self.volume.put(path.as_slice(), bytes.into_vec()),
@@ -55,25 +59,37 @@ impl Machine {
         }
     }
 
-    /// Does the command of a local operation, or of a step of the installer. After an error the
-    /// machine is as it was.
-    pub(super) fn operate(&mut self, alloc: Global, cmd: VolCmd) -> Result<(), AllocError>
+    /// Does the command of a local operation, or of a step of the installer, with the sum of the
+    /// contents that it brings. After an error the machine is as it was.
+    pub(super) fn operate(
+        &mut self,
+        alloc: Global,
+        cmd: VolCmd,
+        sum: Option<Sum>,
+    ) -> Result<(), AllocError>
+        requires sum { MatchOption sum (Unit {0}) (IsBrought cmd) }
         requires allowed { is_allowed cmd self.old.volume ≡ true }
         requires may { MayOperate self.old cmd }
         requires numbers { self.old.volume.next_usn < 2 ^ 64 - 1 }
         ensures ok { OnOk result (self.new ≡ record self.old { volume = effect cmd self.old.volume }) }
         ensures err { OnErr result (self.new ≡ self.old) }
     {
-        let ready = self.volume.ready(alloc, cmd)?;
+        let ready = self.volume.ready_with(alloc, cmd, sum)?;
         self.volume.take(ready);
         let _ = self.volume.objects();
         step_laws();
         Ok(())
     }
 
-    /// A local operation.
-    pub(crate) fn local(&mut self, alloc: Global, operation: LocalOp) -> Result<Answer, AllocError>
-        requires { self.old.volume.next_usn < 2 ^ 64 - 1 }
+    /// A local operation, with the sum of the contents that it brings.
+    pub(crate) fn local(
+        &mut self,
+        alloc: Global,
+        operation: LocalOp,
+        sum: Option<Sum>,
+    ) -> Result<Answer, AllocError>
+        requires numbers { self.old.volume.next_usn < 2 ^ 64 - 1 }
+        requires sum { sum ≡ local_noted_sum (local_note_of operation) }
         ensures answers { IfOk result (λ answer. AnswersLocal operation self.old answer.reply self.new) }
         ensures noted { IfOk result (λ answer. IsNoted answer self.old self.new) }
         ensures err { OnErr result (self.new ≡ self.old) }
@@ -84,7 +100,7 @@ impl Machine {
         let usn = self.volume.next_usn();
         let cmd = self.command(operation)?;
         path_laws();
-        self.operate(alloc, cmd)?;
+        self.operate(alloc, cmd, sum)?;
         Ok(Answer {
             reply: Reply::Usn(usn),
             mark: Mark::Usn(usn),

@@ -1,5 +1,8 @@
 // What a partner asks for.
 ghost use Rattle.std.specs.Prelude.{◌≡◌, if◌then◌else◌, IfOk, None};
+ghost use Rattle.marshal_form.specs.Local.{local};
+ghost use Rattle.marshal_form.specs.Spelling.{spelling};
+ghost use Rattle.vol_state.specs.Valid.{IsSummed};
 ghost use Rattle.name_rules.specs.Tree.{is_file};
 ghost use Rattle.folder_core.specs.Given.{IsNoted};
 ghost use Rattle.folder_core.specs.Serve.{AnswersFile, AnswersVector, file_answer, form_at};
@@ -7,12 +10,25 @@ ghost use Rattle.folder_core.specs.Serve.{AnswersFile, AnswersVector, file_answe
 use super::Machine;
 use crate::answer::Answer;
 use crate::{FileMark, Mark, Reply};
-use frs_base::{Bytes, Uid};
-use marshal_form::{LOCAL, marshal};
+use frs_base::{Kind, Uid};
+use marshal_form::{Form, LOCAL, marshal};
 use name_rules::is_file;
 use pinned_pages::{Body, FileAnswer, Pinned};
 use std::alloc::{AllocError, Global};
+use vol_state::Object;
 use win_order::Update;
+
+/// The form of an object's contents, of which a file has the hash.
+fn form_of(alloc: Global, object: &Object) -> Result<Form, AllocError>
+    requires { IsSummed object.now }
+    ensures { IfOk result (λ form. form ≡ spelling local object.now.bytes) }
+{
+    let contents = object.bytes.as_slice();
+    match object.kind {
+        Kind::File => Form::of_local(alloc, contents, object.sum.0),
+        Kind::Directory => Form::of(alloc, marshal(alloc, LOCAL, contents)?),
+    }
+}
 
 impl Machine {
     /// What the member covers and its records, as of the entry at this place.
@@ -35,14 +51,13 @@ impl Machine {
         ensures { IfOk result (λ body. body ≡ form_at self.now uid.now) }
     {
         if let Some(form) = self.book.form(*uid) {
-            let form = Vec::from_slice(alloc, form.as_slice())?;
-            return Ok(Some(Body::of(Bytes::of(form))));
+            return Ok(Some(Body::of(form.copy()?)));
         }
         match self.volume.object_of(*uid) {
             None => Ok(None),
             Some(object) => {
-                let form = marshal(alloc, LOCAL, object.bytes.as_slice())?;
-                Ok(Some(Body::of(Bytes::of(form))))
+                let form = form_of(alloc, object)?;
+                Ok(Some(Body::of(form)))
             }
         }
     }
@@ -79,7 +94,7 @@ impl Machine {
         ensures noted { IfOk result (λ answer. IsNoted answer self.now self.now) }
     {
         let found = self.found(alloc, at, uid)?;
-        let mark = FileMark::of(&found)?;
+        let mark = FileMark::of(alloc, &found)?;
         Ok(Answer {
             reply: Reply::File(found),
             mark: Mark::File(mark),

@@ -4,13 +4,15 @@ ghost use Rattle.frs_base.specs.Options.{none_or};
 ghost use Rattle.frs_base.specs.Versions.{same_gvsn};
 ghost use Rattle.version_vector.specs.Places.{one_version};
 ghost use Rattle.version_vector.specs.Unions.{inserted};
+ghost use Rattle.record_db.specs.Staged.{form_brought};
 ghost use Rattle.record_db.specs.Steps.{CanCover, Changes, Fits, HasRoomFor, IsFull, IsMerged, IsStep, Widens, covered_with, gives_way, in_set, is_ahead, is_allowed, may_adopt, may_finish, may_record, own_version, update_of};
 ghost use Rattle.record_db.specs.declared.command.BookCmd.TheVariants.{RecordLocal, Adopt, Finish, Unstage};
 
 use crate::shared_update::SharedUpdate;
-use crate::staged::{drop_form, put_form};
+use crate::staged::SharedForm;
 use crate::{Book, BookCmd, Ready, first_past};
-use frs_base::{Bytes, Guid, Gvsn, Phase, Uid};
+use frs_base::{Guid, Gvsn, Phase, Uid};
+use marshal_form::Form;
 use std::alloc::{AllocError, Global};
 use version_vector::{GrowingVector, Vector, VectorError};
 use win_order::Update;
@@ -25,6 +27,17 @@ fn gives_way(held: Option<&Update>, update: &Update) -> bool
             record.is_directory() == update.is_directory() && record.key() < update.key()
         }
     }
+}
+
+/// The form that a command stages, in memory of its own.
+fn form_to_stage(alloc: Global, cmd: &BookCmd) -> Result<Option<SharedForm>, AllocError>
+    ensures { IfOk result (λ form. form ≡ form_brought cmd.now) }
+{
+    let Some(form) = cmd.form() else {
+        return Ok(None);
+    };
+    let form = SharedForm::of(alloc, form)?;
+    Ok(Some(form))
 }
 
 impl Book {
@@ -131,7 +144,7 @@ impl Book {
 
     /// Covers a version more, with how far the journal is consumed, and puts an update that has
     /// it, of whose file this form, or nothing, is staged then.
-    fn cover(&mut self, g: Gvsn, next: u64, put: Option<SharedUpdate>, form: Option<Bytes>)
+    fn cover(&mut self, g: Gvsn, next: u64, put: Option<SharedUpdate>, form: Option<SharedForm>)
         requires version { g.version < 2 ^ 64 - 1 }
         requires room { 0 < self.old.room }
         requires staged_room { 0 < self.old.staged_room }
@@ -142,7 +155,7 @@ impl Book {
         self.vector.cover(g);
         self.consumed = next;
         if let Some(update) = put {
-            put_form(&mut self.staged, update.uid(), form);
+            self.staged.put(update.uid(), form);
             self.records.put(update);
         }
     }
@@ -162,7 +175,12 @@ impl Book {
     }
 
     /// Puts a partner's update.
-    fn change_by_update(&mut self, update: Update, form: Option<Bytes>, put: Option<SharedUpdate>)
+    fn change_by_update(
+        &mut self,
+        update: Update,
+        form: Option<SharedForm>,
+        put: Option<SharedUpdate>,
+    )
         requires allowed { is_allowed (Adopt update form) self.old.state ≡ true }
         requires put { put ≡ Some (in_set self.old.state.set update) }
         requires room { 0 < self.old.room }
@@ -187,9 +205,16 @@ impl Book {
     }
 
     /// Does a command whose condition holds.
-    fn change(&mut self, cmd: BookCmd, put: Option<SharedUpdate>, merged: GrowingVector)
+    fn change(
+        &mut self,
+        cmd: BookCmd,
+        put: Option<SharedUpdate>,
+        form: Option<SharedForm>,
+        merged: GrowingVector,
+    )
         requires allowed { is_allowed cmd self.old.state ≡ true }
         requires put { put ≡ option_map (in_set self.old.state.set) (update_of cmd) }
+        requires form { form ≡ form_brought cmd }
         requires room { 0 < self.old.room }
         requires staged_room { 0 < self.old.staged_room }
         requires vector { CanCover cmd merged.items self.old }
@@ -197,7 +222,7 @@ impl Book {
     {
         match cmd {
             BookCmd::RecordLocal { usn, update } => self.change_by_record(usn, update, put),
-            BookCmd::Adopt { update, form } => self.change_by_update(update, form, put),
+            BookCmd::Adopt { update, form: _ } => self.change_by_update(update, form, put),
             BookCmd::Finish { sent } => self.change_by_round(merged, sent),
             BookCmd::Unstage { uid } => self.unstage(uid),
         }
@@ -217,9 +242,15 @@ impl Book {
             GrowingVector::empty()
         };
         let put = self.update_to_put(alloc, &cmd)?;
+        let form = form_to_stage(alloc, &cmd)?;
         self.records.reserve(alloc)?;
-        self.staged.reserve_one(alloc)?;
-        Ok(Ready { cmd, put, merged })
+        self.staged.reserve(alloc)?;
+        Ok(Ready {
+            cmd,
+            put,
+            form,
+            merged,
+        })
     }
 
     /// Does a command for which there is room. A command whose condition doesn't hold changes
@@ -228,10 +259,27 @@ impl Book {
         requires { Fits ready self.old }
         ensures { IsStep ready.cmd self.old.state self.new.state }
     {
-        let (cmd, put, merged) = ready.into_parts();
+        let (cmd, put, form, merged) = ready.into_parts();
         if self.is_allowed(&cmd) {
-            self.change(cmd, put, merged);
+            self.change(cmd, put, form, merged);
         }
+    }
+
+    /// Takes the memory that a command whose condition holds needs, and does it: the condition isn't
+    /// tested again. After an error the state is as it was.
+    pub fn do_allowed(&mut self, alloc: Global, cmd: BookCmd) -> Result<(), VectorError>
+        requires { is_allowed cmd self.old.state ≡ true }
+        ensures ok { OnOk result (IsStep cmd self.old.state self.new.state) }
+        ensures full { IfErr result (λ e. IsFull e cmd self.old.state) }
+        ensures err { OnErr result (self.new.state ≡ self.old.state) }
+    {
+        let merged = self.make_room(alloc, &cmd)?;
+        let put = self.update_to_put(alloc, &cmd)?;
+        let form = form_to_stage(alloc, &cmd)?;
+        self.records.reserve(alloc)?;
+        self.staged.reserve(alloc)?;
+        self.change(cmd, put, form, merged);
+        Ok(())
     }
 
     /// Consumes the journal record with this USN, which makes this update, if any. After an error
@@ -257,7 +305,7 @@ impl Book {
         &mut self,
         alloc: Global,
         update: Update,
-        form: Option<Bytes>,
+        form: Option<Form>,
     ) -> Result<(), VectorError>
         ensures ok { OnOk result (IsStep (Adopt update form) self.old.state self.new.state) }
         ensures full { IfErr result (λ e. IsFull e (Adopt update form) self.old.state) }
@@ -285,6 +333,6 @@ impl Book {
     pub fn unstage(&mut self, uid: Uid)
         ensures { IsStep (Unstage uid) self.old.state self.new.state }
     {
-        drop_form(&mut self.staged, &uid);
+        self.staged.cut(&uid);
     }
 }

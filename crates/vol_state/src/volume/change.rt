@@ -1,14 +1,16 @@
 // The steps of commands.
-ghost use Rattle.std.specs.Prelude.{◌≡◌, ◌<◌, ◌+◌, [], Some, true, if◌then◌else◌, IfOk, IsSome, option_copied};
+ghost use Rattle.std.specs.Prelude.{◌≡◌, ◌<◌, ◌+◌, [], Some, true, if◌then◌else◌, IfOk, IsSome, MatchOption, option_copied};
 ghost use Rattle.vol_state.specs.Places.{object_at};
 ghost use Rattle.vol_state.specs.Valid.{IsVolume};
 ghost use Rattle.vol_state.specs.Seen.{Fits};
 ghost use Rattle.vol_state.specs.Numbers.{has_fid, has_usn, own_version};
 ghost use Rattle.vol_state.specs.Effects.{added, at_place, edited, gone, new_object, uid_found, with_bytes};
 ghost use Rattle.vol_state.specs.Conditions.{step};
+ghost use Rattle.vol_state.specs.Sums.{IsBrought, IsKnownOf};
 
-use crate::{Object, Ready, VolCmd, VolRecord, Volume, content_sum};
-use frs_base::{Bytes, Guid, Kind, Name, Uid};
+use crate::sums::sum_with;
+use crate::{Object, Ready, VolCmd, VolRecord, Volume};
+use frs_base::{Bytes, Guid, Kind, Name, Sum, Uid};
 use std::alloc::{AllocError, Global};
 
 /// The version of an object's tag of the own database.
@@ -42,16 +44,18 @@ fn first_local(local: bool, usn: u64) -> u64
 }
 
 impl Volume {
-    /// Adds an object with the next number.
+    /// Adds an object with the next number. The sum of its contents may be known.
     fn add(
         &mut self,
         place: Option<(u64, Name)>,
         kind: Kind,
         bytes: Bytes,
+        known: Option<Sum>,
         tag: Option<Uid>,
         op: u8,
         local: bool,
     )
+        requires known { IsKnownOf bytes known }
         requires room { 0 < self.old.room }
         requires usn { has_usn self.old.state ≡ true }
         requires fid { has_fid self.old.state ≡ true }
@@ -60,7 +64,7 @@ impl Volume {
     {
         let usn = self.next_usn;
         let fid = self.next_fid;
-        let sum = content_sum(kind, &bytes);
+        let sum = sum_with(kind, &bytes, known);
         let object = Object {
             fid,
             place,
@@ -109,8 +113,9 @@ impl Volume {
         self.next_usn += 1;
     }
 
-    /// Gives an object contents.
-    fn fill_object(&mut self, fid: u64, bytes: Bytes, op: u8, local: bool)
+    /// Gives an object contents, whose sum may be known.
+    fn fill_object(&mut self, fid: u64, bytes: Bytes, known: Option<Sum>, op: u8, local: bool)
+        requires known { IsKnownOf bytes known }
         requires room { 0 < self.old.room }
         requires usn { has_usn self.old.state ≡ true }
         requires there { IsSome (object_at self.old.state.objects fid) }
@@ -119,7 +124,7 @@ impl Volume {
     {
         let usn = self.next_usn;
         let uid = uid_found(self.shelf.own(), self.shelf.object_at(fid));
-        self.shelf.fill(fid, bytes, local, usn);
+        self.shelf.fill(fid, bytes, known, local, usn);
         self.journal.push(VolRecord {
             usn,
             fid,
@@ -159,9 +164,25 @@ impl Volume {
         ensures command { IfOk result (λ ready. ready ≡ cmd) }
         ensures fits { IfOk result (λ ready. Fits ready self.new) }
     {
+        self.ready_with(alloc, cmd, None)
+    }
+
+    /// Does so where the sum of the contents that the command brings may be known: then
+    /// [`Volume::take`] doesn't hash them again.
+    pub fn ready_with(
+        &mut self,
+        alloc: Global,
+        cmd: VolCmd,
+        known: Option<Sum>,
+    ) -> Result<Ready, AllocError>
+        requires { MatchOption known (Unit {0}) (IsBrought cmd) }
+        ensures same { self.new.state ≡ self.old.state }
+        ensures command { IfOk result (λ ready. ready ≡ cmd) }
+        ensures fits { IfOk result (λ ready. Fits ready self.new) }
+    {
         self.shelf.reserve(alloc)?;
         self.journal.reserve(alloc)?;
-        Ok(Ready::of(cmd, Bytes::of(Vec::new(alloc))))
+        Ok(Ready::of(cmd, Bytes::of(Vec::new(alloc)), known))
     }
 
     /// Does a command for which there is room. A command whose condition doesn't hold, or that
@@ -170,7 +191,7 @@ impl Volume {
         requires { Fits ready self.old }
         ensures { self.new.state ≡ step ready self.old.state }
     {
-        let (cmd, empty) = ready.into_parts();
+        let (cmd, empty, known) = ready.into_parts();
         if !self.has_numbers(&cmd) || !self.is_allowed(&cmd) {
             return;
         }
@@ -179,10 +200,26 @@ impl Volume {
                 parent,
                 name,
                 bytes,
-            } => self.add(Some((parent, name)), Kind::File, bytes, None, 1, true),
-            VolCmd::PutOver { fid, bytes } => self.fill_object(fid, bytes, 2, true),
+            } => self.add(
+                Some((parent, name)),
+                Kind::File,
+                bytes,
+                known,
+                None,
+                1,
+                true,
+            ),
+            VolCmd::PutOver { fid, bytes } => self.fill_object(fid, bytes, known, 2, true),
             VolCmd::Mkdir { parent, name } => {
-                self.add(Some((parent, name)), Kind::Directory, empty, None, 3, true)
+                self.add(
+                    Some((parent, name)),
+                    Kind::Directory,
+                    empty,
+                    None,
+                    None,
+                    3,
+                    true,
+                )
             }
             VolCmd::Move { fid, parent, name } => {
                 self.place_object(fid, Some((parent, name)), 4, true)
@@ -190,8 +227,10 @@ impl Volume {
             VolCmd::Remove { fid } => self.take_object(fid, 5, true),
             VolCmd::Park { fid } => self.place_object(fid, None, 6, false),
             VolCmd::Erase { fid } => self.take_object(fid, 7, false),
-            VolCmd::Make { uid, kind, bytes } => self.add(None, kind, bytes, Some(uid), 8, false),
-            VolCmd::Rewrite { fid, bytes } => self.fill_object(fid, bytes, 9, false),
+            VolCmd::Make { uid, kind, bytes } => {
+                self.add(None, kind, bytes, known, Some(uid), 8, false)
+            }
+            VolCmd::Rewrite { fid, bytes } => self.fill_object(fid, bytes, known, 9, false),
             VolCmd::Place { fid, parent, name } => {
                 self.place_object(fid, Some((parent, name)), 10, false)
             }

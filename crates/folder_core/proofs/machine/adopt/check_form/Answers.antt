@@ -16,17 +16,17 @@ nat_same x = grind (arith, nat_tests)
 
 pub returns-then-eq-clause-checks : goal.returns-then-eq-clause-checks
 returns-then-eq-clause-checks c =
-    let bytes = sym c.sum.ensures ∙ lists_told eqb nat_told c.sum.result c.args.want.0 (sym c.if-eq.ensures) in
+    let bytes = sym (ap (λ z. z.0) c.requires) ∙ lists_told eqb nat_told c.args.got.0 c.args.want.0 (sym c.if-eq.ensures) in
     let same : form_sum c.args.form.now ≡ c.args.want = λ i. record { 0 = bytes i } in
     inr (drop 44 c.args.form.now, c.in_default.ensures.form, inr (same, refl))
 
 pub returns-else-eq-clause-checks : goal.returns-else-eq-clause-checks
 returns-else-eq-clause-checks c =
     let differs : form_sum c.args.form.now ≢ c.args.want = λ same.
-    let bytes : c.sum.result ≡ c.args.want.0 = c.sum.ensures ∙ ap (λ z. z.0) same in
-    let yes : pointwise eqb c.sum.result c.args.want.0 ≡ true = ap (pointwise eqb c.sum.result) (sym bytes) ∙ list_told eqb nat_same c.sum.result in
+    let bytes : c.args.got.0 ≡ c.args.want.0 = ap (λ z. z.0) (c.requires ∙ same) in
+    let yes : pointwise eqb c.args.got.0 c.args.want.0 ≡ true = ap (pointwise eqb c.args.got.0) (sym bytes) ∙ list_told eqb nat_same c.args.got.0 in
     absurd (cc (c.if-eq.ensures ∙ yes)) in
-    inr (drop 44 c.args.form.now, c.in_default.ensures.form, inl (differs, ap (λ l. Err (HashDiffers c.args.want (record { 0 = l }))) c.sum.ensures))
+    inr (drop 44 c.args.form.now, c.in_default.ensures.form, inl (differs, ap (λ got. Err (HashDiffers c.args.want got)) c.requires))
 
 pub returns-then-eq-clause-spelled : goal.returns-then-eq-clause-spelled
 returns-then-eq-clause-spelled c = form_spelled c.args.form.now local _ (λ i. omega (arith, c.type_inv.form i)) c.in_default.ensures.form

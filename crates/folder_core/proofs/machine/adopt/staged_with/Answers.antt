@@ -39,12 +39,12 @@ pub returns-in-Err-clause-stages : goal.returns-in-Err-clause-stages
 returns-in-Err-clause-stages c =
     let file = sym c.is_file.ensures ∙ c.if-not-is_file.false in
     let bytes = c.as_slice.result.now in
-    stages c.args.update.now c.args.form bytes _ file (c.as_slice.ensures ∙ c.bytes_of-form.ensures)
+    stages c.args.update.now c.args.form bytes _ file (c.as_slice.ensures ∙ c.in_ok-form.ensures)
     (refused bytes c.args.update.now.hash (Some bytes) c.in-Err.why c.in-Err.ensures.checks)
 
 pub returns-in-Ok-clause-stages : goal.returns-in-Ok-clause-stages
 returns-in-Ok-clause-stages c =
     let file = sym c.is_file.ensures ∙ c.if-not-is_file.false in
-    let bytes = c.bytes_of-form.result in
-    stages c.args.update.now c.args.form bytes _ file c.bytes_of-form.ensures
+    let bytes = c.in_ok-form.form in
+    stages c.args.update.now c.args.form bytes _ file c.in_ok-form.ensures
     (accepted bytes c.args.update.now.hash (Some bytes) (subst (λ l. ChecksForm l c.args.update.now.hash (tt {0}) (Ok (tt {0}))) c.as_slice.ensures c.in-Ok.ensures.checks))

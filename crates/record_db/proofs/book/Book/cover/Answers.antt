@@ -5,8 +5,8 @@ use Rattle.record_db.specs.Steps.{Widens}
 use Rattle.record_db.proofs.Kept.{apart_covered, kept}
 use Rattle.record_db.proofs.book.Book.cover.Goals as goal
 
-pub put-requires-clause-new : goal.put-requires-clause-new
-put-requires-clause-new c =
+pub put-requires-in-Some-clause-new : goal.put-requires-in-Some-clause-new
+put-requires-in-Some-clause-new c =
     let is = ap (λ seen. seen.state) c.self.view_is in
     let widens = subst (λ b. Widens b (inserted (one_version c.args.g) b.vector) c.args.next (Some c.in-Some.update)) (sym is) (subst (Widens _ _ c.args.next) c.in-Some.is c.requires.widens) in
     apart_covered _ c.in-Some.update.gvsn _ widens.new.1 c.self.invariant.covered
@@ -15,7 +15,7 @@ pub invariant_of-self : goal.invariant_of-self
 invariant_of-self c =
     let is = ap (λ seen. seen.state) c.self.view_is in
     let widens = subst (λ b. Widens b (inserted (one_version c.args.g) b.vector) c.args.next (Some c.in-Some.update)) (sym is) (subst (Widens _ _ c.args.next) c.in-Some.is c.requires.widens) in
-    rw (c.put.ensures, c.put_form.ensures, c.uid.ensures, c.cover.ensures.form) (kept _ _ c.args.next (Some c.in-Some.update) c.args.form c.self.invariant widens)
+    rw (c.put-in-Some.ensures, c.put.ensures, c.uid.ensures, c.cover.ensures.form) (kept _ _ c.args.next (Some c.in-Some.update) c.args.form c.self.invariant widens)
 
 pub invariant_of-self-in_default : goal.invariant_of-self-in_default
 invariant_of-self-in_default c =

@@ -2,4 +2,4 @@ use Rattle.record_db.proofs.Kept.{kept_without}
 use Rattle.record_db.proofs.book.Book.unstage.Goals as goal
 
 pub invariant_of-self : goal.invariant_of-self
-invariant_of-self c = rw c.drop_form.ensures.items (kept_without _ c.args.uid c.self.invariant)
+invariant_of-self c = rw c.cut.ensures.items (kept_without _ c.args.uid c.self.invariant)

@@ -6,12 +6,12 @@ use Rattle.vol_state.specs.Valid.{IsKept}
 use Rattle.vol_state.proofs.Kept.{kept_fill}
 use Rattle.vol_state.proofs.volume.Volume.fill_object.Goals as goal
 
-pub fill-requires : goal.fill-requires
-fill-requires c =
+pub fill-requires-clause-tree : goal.fill-requires-clause-tree
+fill-requires-clause-tree c =
     let v : State = record { own = c.self.inside.shelf.own; objects = c.self.inside.shelf.items; journal = c.self.inside.journal.items; next_fid = c.self.inside.next_fid; next_usn = c.self.inside.next_usn } in
     let e : v ≡ c.args.self.now.state = ap (λ s. s.state) c.self.view_is in
     let P : State → Type 0 = λ s. IsTree (edit c.args.fid (λ o. stamp c.args.local s.next_usn (with_bytes c.args.bytes o)) s.objects) in
-    record { tree = subst P (sym e) c.requires.valid.tree }
+    subst P (sym e) c.requires.valid.tree
 
 pub invariant_of-self : goal.invariant_of-self
 invariant_of-self c =
