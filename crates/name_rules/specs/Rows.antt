@@ -47,9 +47,13 @@ pub record AreTreeRows (records : List Update) (rows : List TreeRow) : Type 0 wh
   pub each : (row : TreeRow) → In row rows → IsRow (Among records) row.path row.kind row.hash
   pub whole : (path : List (List ℕ)) (kind : Kind) (sum : Sum) → IsRow (Among records) path kind sum → In (record { path = path; kind = kind; hash = sum }) rows
 
+-- the hash of an update's row, all zero for a directory
+abbrev pub row_hash : Update → Sum
+row_hash u = if is_directory u then no_sum else u.hash
+
 -- the row of an update at a path
 abbrev pub row_at : List (List ℕ) → Update → TreeRow
-row_at path u = record { path = path; kind = kind_of u; hash = if is_directory u then no_sum else u.hash }
+row_at path u = record { path = path; kind = kind_of u; hash = row_hash u }
 
 -- and in a directory with this path
 abbrev pub row_in : List (List ℕ) → Update → TreeRow

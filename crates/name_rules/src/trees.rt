@@ -1,8 +1,6 @@
 // The tree of records.
-ghost use Rattle.std.specs.Prelude.{◌≡◌, ◌++◌, ◌∷◌, [], IfOk, if◌then◌else◌, map};
-ghost use Rattle.vol_state.specs.Sums.{no_sum};
-ghost use Rattle.win_order.specs.Order.{is_directory};
-ghost use Rattle.name_rules.specs.Rows.{AreRowsOf, AreTreeRows, HaveNoRoot, path_above, row_in};
+ghost use Rattle.std.specs.Prelude.{◌≡◌, ◌++◌, ◌∷◌, [], IfOk, map};
+ghost use Rattle.name_rules.specs.Rows.{AreRowsOf, AreTreeRows, HaveNoRoot, path_above, row_hash, row_in};
 ghost use Rattle.name_rules.specs.Shown.{AreDistinct, Descends};
 
 use crate::descent::{Reached, descend};
@@ -13,9 +11,9 @@ use frs_base::{List, Name, Sum};
 use std::alloc::{AllocError, Global};
 use win_order::Update;
 
-/// The hash of a row.
-fn hash_of(update: &Update) -> Sum
-    ensures { result ≡ (if is_directory update.now then no_sum else update.now.hash) }
+/// The hash of an update's row.
+fn row_hash(update: &Update) -> Sum
+    ensures { result ≡ row_hash update.now }
 {
     if update.is_directory() {
         Sum([0; 20])
@@ -43,7 +41,7 @@ fn row_in(alloc: Global, above: &[Name], update: &Update) -> Result<TreeRow, All
     Ok(TreeRow {
         path: path_in(alloc, above, &update.name)?,
         kind: kind_of(update),
-        hash: hash_of(update),
+        hash: row_hash(update),
     })
 }
 
@@ -51,13 +49,10 @@ fn row_in(alloc: Global, above: &[Name], update: &Update) -> Result<TreeRow, All
 fn path_above(rows: &[TreeRow], above: Option<usize>) -> &[Name]
     ensures { result.now ≡ path_above rows.now above }
 {
-    let Some(at) = above else {
-        return &[];
-    };
-    let Some(row) = rows.get(at) else {
-        return &[];
-    };
-    row.path.as_slice()
+    match above.and_then(|at| rows.get(at)) {
+        None => &[],
+        Some(row) => row.path.as_slice(),
+    }
 }
 
 /// The rows of those that were found, in the order in which they were.
