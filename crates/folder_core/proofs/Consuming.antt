@@ -146,7 +146,7 @@ may_skip m usn h numbers (quiet, n) = by n.candidate
         let left : m.book.consumed < m.volume.next_usn = subst (λ k. k < m.volume.next_usn) is (h.agrees.member.numbers.entries usn r at) in
         let low = h.order.consumed in
         let passes : None ≡ made_at m 0 = sym (passes_replicas m.volume m.book.consumed m.book.records 0 m.book.phase m.book.kind r (subst (λ k. record_at m.volume.journal k ≡ Some r) is at)
-            (quiet usn r (subst (λ k. m.book.consumed ≤ k) (sym is) (omega arith)) at)) in
+        (quiet usn r (subst (λ k. m.book.consumed ≤ k) (sym is) (omega arith)) at)) in
         subst (λ k. MayTake (cmd.RecordLocal k None) m) (sym is) (record {
           allowed = both_so _ _ (same_number m.book.consumed) (both_so _ _ (has_next_of m.book.consumed m.volume.next_usn low numbers) refl);
           sound = λ new book c. recorded_sound m 0 None new h passes tt left book c;

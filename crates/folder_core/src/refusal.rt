@@ -46,7 +46,10 @@ impl fmt::Display for Refusal {
         match self {
             Refusal::Local(why) => write!(f, "{why}"),
             Refusal::Skewed { clock } => write!(f, "the clock {clock} is too far ahead"),
-            Refusal::NotYet { usn } => write!(f, "the journal record {usn} is to be consumed first"),
+            Refusal::NotYet { usn } => write!(
+                f,
+                "the journal record {usn} is to be consumed first"
+            ),
             Refusal::Unfit(why) => write!(f, "{why}"),
             Refusal::OwnAhead { version } => write!(f, "the own version {version} isn't made yet"),
             Refusal::KindDiffers { held } => match held {

@@ -160,7 +160,11 @@ impl Machine {
     {
         let _ = self.book();
         let cmd = BookCmd::RecordLocal { usn, update: None };
-        let Answer { reply, mark, moved: _ } = did(&Step::Skip(usn));
+        let Answer {
+            reply,
+            mark,
+            moved: _,
+        } = did(&Step::Skip(usn));
         self.widen(alloc, cmd, reply, mark)
     }
 
