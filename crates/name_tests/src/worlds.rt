@@ -161,7 +161,7 @@ fn worlds(rt: HostRuntime) -> Result<(), Fail> {
             &[("X", Kind::File), ("y", Kind::File)],
             Some(11),
         ),
-        // in a directory that was removed, and in one that was removed in turn
+        // in a directory that was removed, and below it
         (
             [
                 (0, x, What::Gone),
