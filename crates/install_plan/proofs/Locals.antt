@@ -1,6 +1,5 @@
 -- The first local record of a journal whose USNs run.
-use Rattle.std.proofs.Common.{◌≡◌, ◌+◌, ◌-◌, ◌<◌, ◌≤◌, ◌∙◌, ℕ, Bool, true, false, length, Option, Some, None, refl, sym, ap, arith}
-use Rattle.std.specs.Prelude.{slice_get}
+use Rattle.std.proofs.Common.{◌≡◌, ◌-◌, ◌<◌, ◌≤◌, ◌∙◌, ℕ, Bool, true, false, Some, None, refl, sym, ap, arith}
 use Rattle.std.proofs.lemmas.Option.{slice_get-get_or, slice_get_past}
 use Rattle.frs_base.specs.Options.{some_is}
 use Rattle.vol_state.specs.declared.record.VolRecord.{VolRecord}

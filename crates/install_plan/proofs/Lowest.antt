@@ -17,7 +17,7 @@ use Rattle.install_plan.specs.Least.{IsLeast, lower_of}
 pub not_itself : (a : Uid) → uid_lt a a ≡ false
 not_itself a = grind (arith, nat_tests)
 
-not_back : (a b : Uid) → uid_lt a b ≡ true → uid_lt b a ≡ false
+pub not_back : (a b : Uid) → uid_lt a b ≡ true → uid_lt b a ≡ false
 not_back a b lower = grind (arith, nat_tests)
 
 still_higher : (a b c : Uid) → uid_lt a b ≡ false → uid_lt b c ≡ false → uid_lt a c ≡ false

@@ -1,11 +1,9 @@
 -- The first of those shown that has no object.
-use Rattle.std.proofs.Common.{◌≡◌, ◌∙◌, ℕ, Bool, true, false, cond, inl, inr, List, [], ◌∷◌, Option, Some, None, refl, sym, ap, subst, arith}
+use Rattle.std.proofs.Common.{◌≡◌, ◌∙◌, ℕ, Bool, true, false, cond, inl, inr, List, [], ◌∷◌, Option, Some, None, refl, sym, ap, subst}
 use Rattle.std.specs.Prelude.{MatchOption, find, is_none, is_some}
-use Rattle.std.proofs.lemmas.Bool.Decides.{nat_tests}
 use Rattle.frs_base.specs.Options.{In}
 use Rattle.frs_base.specs.Versions.{same_uid, uid_lt}
 use Rattle.frs_base.specs.declared.version.Uid.{Uid}
-use Rattle.win_order.specs.declared.update.Update.{Update}
 use Rattle.vol_state.specs.declared.object.Object.{Object}
 use Rattle.vol_state.specs.Maps.{maps_of}
 use Rattle.vol_state.specs.State.{State, object_of, uid_of}
@@ -17,17 +15,13 @@ use Rattle.vol_state.proofs.Walks.{same_is}
 use Rattle.name_rules.specs.Next.{NothingToMake}
 use Rattle.name_rules.specs.declared.step.Step.TheVariants.{Make}
 use Rattle.name_rules.specs.Shown.{AreByUid, AreShown, Among}
-use Rattle.name_rules.specs.Tree.{IsShown}
 use Rattle.name_rules.proofs.Lists.{in_all}
 use Rattle.record_db.specs.State.{BookState}
 use Rattle.install_plan.specs.First.{IsFirst, Needs}
 use Rattle.install_plan.proofs.OfObjects.{stands}
-use Rattle.install_plan.proofs.Lowest.{not_itself}
+use Rattle.install_plan.proofs.Lowest.{not_back, not_itself}
 
 -- ---- the first that passes, in order
-
-not_before : (a b : Uid) → uid_lt a b ≡ true → uid_lt b a ≡ false
-not_before a b lower = grind (arith, nat_tests)
 
 -- the least that passes, or none does
 abbrev Found : (Uid → Bool) → List Uid → Option Uid → Type 0
@@ -52,7 +46,7 @@ first_found test (x ∷ xs) up = by (test x) refl (first_found test xs up.1)
 
     here : (other : Uid) → In other (x ∷ xs) → test other ≡ true → uid_lt other x ≡ false
     here other (inl same) t = subst (λ y. uid_lt y x ≡ false) (sym same) (not_itself x)
-    here other (inr i) t = not_before x other (in_all (λ y. uid_lt x y ≡ true) xs other up.0 i)
+    here other (inr i) t = not_back x other (in_all (λ y. uid_lt x y ≡ true) xs other up.0 i)
 
     by : (b : Bool) → test x ≡ b → Found test xs (find test xs) → Found test (x ∷ xs) (cond b (Some x) (find test xs))
     by true t rest = (inl refl, t, here)

@@ -1,4 +1,4 @@
-use Rattle.std.proofs.Common.{◌≡◌, ◌∙◌, None, Some, Option, ap, subst, sym}
+use Rattle.std.proofs.Common.{◌≡◌, ◌∙◌, None, Some, ap, subst, sym}
 use Rattle.std.specs.Prelude.{◌↔◌, IsTrue, option_copied}
 use Rattle.std.specs.Str.{bytes_eq}
 use Rattle.vol_state.specs.State.{uid_of}

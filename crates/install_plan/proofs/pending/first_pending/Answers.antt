@@ -1,4 +1,4 @@
-use Rattle.std.proofs.Common.{◌≤◌, arith}
+use Rattle.std.proofs.Common.{arith}
 use Rattle.install_plan.proofs.Locals.{is_quiet}
 use Rattle.install_plan.proofs.pending.first_pending.Goals as goal
 
