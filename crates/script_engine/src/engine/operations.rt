@@ -38,7 +38,7 @@ pub(super) fn copy_bytes(alloc: Global, bytes: &Bytes) -> Result<Bytes, AllocErr
 fn filled_bytes(alloc: Global, length: u64) -> Result<Bytes, AllocError>
     ensures { IfOk result (λ bytes. bytes ≡ filled length) }
 {
-    let mut bytes = Vec::new(alloc);
+    let mut bytes = Vec::with_capacity(alloc, length as usize)?;
     for i in 0..length {
         bytes.push((i % PATTERN) as u8)?;
     }

@@ -13,7 +13,8 @@ use crate::Refusal;
 use crate::lines::{pulled_text, refusal_text, unknown_text};
 use crate::replies::{file_of, pinned_of, taken_of};
 use folder_core::{Event, files_have_forms};
-use frs_base::{Bytes, Guid, List};
+use frs_base::{Guid, List};
+use marshal_form::Form;
 use name_rules::is_file;
 use pinned_pages::{Body, FileAnswer, Pinned};
 use std::alloc::{AllocError, Global};
@@ -32,11 +33,11 @@ pub(crate) struct Paged {
 pub(crate) struct Fetched {
     at: u64,
     update: Update,
-    form: Option<Bytes>,
+    form: Option<Form>,
 }
 
 /// The bytes of a body, of which a number of 64 bits tells how many they are.
-fn form_of(body: Option<Body>) -> Option<Bytes>
+fn form_of(body: Option<Body>) -> Option<Form>
     ensures form { result ≡ body }
     ensures length { MatchOption body (Unit {0}) (λ form. length form < 2 ^ 64) }
 {
@@ -111,7 +112,7 @@ impl Engine {
         from: Guid,
         entry: u64,
         update: Update,
-        form: Option<Bytes>,
+        form: Option<Form>,
     ) -> Result<Result<(), Refusal>, AllocError>
         requires within { at < length self.old.folders.items }
         requires form { HasForm update form }
