@@ -11,6 +11,7 @@ use frs_io::{ReadError, Sink, Source, WriteError, hand_on, read_to_limit, write_
 use script_engine::Engine;
 use script_lang::{Line, ParseError, parse};
 use std::alloc::Global;
+use std::mem::forget;
 
 /// The most bytes that a script has.
 const BYTES: usize = 16_777_216;
@@ -39,7 +40,8 @@ fn member_count(lines: &[Line]) -> usize
     lines.iter().filter(|line| makes_member(line)).count()
 }
 
-/// Does the lines, and writes what they print in pieces.
+/// Does the lines, and writes what they print in pieces. The members' memory is left to the system,
+/// which takes it back at once when the process ends.
 fn run_lines<K: Sink>(alloc: Global, lines: &[Line], out: &mut K) -> Result<(), WriteError>
     requires { All IsLine lines.now }
     ensures ok { OnOk result (PrintsAll lines.now (K.taken out.old) (K.taken out.new)) }
@@ -53,6 +55,7 @@ fn run_lines<K: Sink>(alloc: Global, lines: &[Line], out: &mut K) -> Result<(), 
         pending.push_str(text.as_str())?;
         hand_on(alloc, out, &mut pending)?;
     }
+    forget(engine);
     write_all(alloc, out, pending.as_bytes())
 }
 
