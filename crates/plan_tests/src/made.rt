@@ -3,6 +3,7 @@ ghost use Rattle.std.specs.Prelude.{OnOk};
 ghost use Rattle.vol_state.specs.Journal.{IsNumbered};
 
 use frs_base::{Bytes, Gvsn, Kind, Name, Sum, Uid, content_set, database_of};
+use marshal_form::Form;
 use record_db::Book;
 use std::alloc::Global;
 use std::test::Fail;
@@ -139,7 +140,7 @@ pub(crate) fn fill_book(
         let update = record_of(alloc, volume, line, clock)?;
         let staged = line.ends_with(" staged");
         let form = if staged {
-            Some(Bytes::of(Vec::new(alloc)))
+            Some(Form::of(alloc, Vec::new(alloc))?)
         } else {
             None
         };
