@@ -96,6 +96,18 @@ fn form_of(alloc: Global, word: &str) -> Result<Option<Form>, Fail> {
     Ok(Some(Form::of(alloc, form)?))
 }
 
+/// The directory of an update: the root where it is `shown` or `gone`, else one that no member has.
+fn parent_of(word: &str) -> Uid {
+    if word == "shown" || word == "gone" {
+        Uid {
+            db: content_set(),
+            version: 1,
+        }
+    } else {
+        file_of(0, 1)
+    }
+}
+
 /// An update of this file, made by this version at this clock; the word says of what: a `directory`, a
 /// file of a `foreign` content set, a file that is `gone`, or else a file. A file has the contents `hi`.
 fn update_of(alloc: Global, word: &str, gvsn: Gvsn, uid: Uid, clock: u64) -> Result<Update, Fail> {
@@ -119,7 +131,7 @@ fn update_of(alloc: Global, word: &str, gvsn: Gvsn, uid: Uid, clock: u64) -> Res
         similarity: [0; 16],
         uid,
         gvsn,
-        parent: file_of(0, 1),
+        parent: parent_of(word),
         name: name_of(alloc, "x")?,
         flags: 0,
     })
@@ -411,7 +423,7 @@ fn what_is_pulled_is_installed(rt: HostRuntime) -> Result<(), Fail> {
         &rt,
         rt.alloc(),
         "install -> drained | 9 9 0 0 0
-file 2 9 2 9 500 -> adopted | 9 9 1 1 2
+shown 2 9 2 9 500 -> adopted | 9 9 1 1 2
 install -> did make 9 | 10 9 1 1 2
 install -> did place 9 | 11 9 1 1 2
 install -> did unstage 9 | 11 9 1 1 2
@@ -423,14 +435,14 @@ put x ho -> usn 11 | 12 11 2 1 7
 install -> the journal record 11 is to be consumed first | 12 11 2 1 7
 consume 600 -> made 11 | 12 12 2 1 12
 install -> drained | 12 12 2 1 12
-file 2 10 2 9 900 -> adopted | 12 12 2 1 14
+shown 2 10 2 9 900 -> adopted | 12 12 2 1 14
 install -> did rewrite 9 | 13 12 2 1 14
 install -> did unstage 9 | 13 12 2 1 14
 install -> did skip 12 | 13 13 2 1 17
 install -> drained | 13 13 2 1 17
 move x y -> usn 13 | 14 13 2 1 17
 consume 1000 -> made 13 | 14 14 2 1 20
-file 2 11 2 9 1100 -> adopted | 14 14 2 1 21
+shown 2 11 2 9 1100 -> adopted | 14 14 2 1 21
 install -> did park 9 | 15 14 2 1 21
 install -> did place 9 | 16 14 2 1 21
 install -> did unstage 9 | 16 14 2 1 21
