@@ -1,5 +1,5 @@
 -- What a line has done when memory runs out: some of its events, from the first on.
-use Rattle.std.specs.Prelude.{◌≡◌, ◌⊎◌, ℕ, false, List, [], ◌∷◌, None, Ok, bytes_eq, take}
+use Rattle.std.specs.Prelude.{◌≡◌, ◌⊎◌, ℕ, false, List, [], ◌∷◌, None, Some, Ok, bytes_eq, take}
 use Rattle.win_order.specs.declared.update.Update.{Update}
 use Rattle.vol_state.specs.declared.command.VolCmd.{VolCmd}
 use Rattle.vol_state.specs.declared.operation.LocalOp.{LocalOp}
@@ -8,11 +8,13 @@ use Rattle.vol_state.specs.Ways.{Resolves}
 use Rattle.record_db.specs.Records.{Versions}
 use Rattle.script_lang.specs.declared.line.Line.{Line}
 use Rattle.script_lang.specs.declared.line.Line.TheVariants as lines
+use Rattle.name_rules.specs.declared.step.Step.{Step as InstallStep}
 use Rattle.world_model.specs.World.{World}
 use Rattle.world_model.specs.Events.{Step, Local as LocalEvent, SendVector}
 use Rattle.script_engine.specs.declared.consumed.Consumed.{Consumed}
 use Rattle.script_engine.specs.Scene.{Scene, IsNamed, in_world}
 use Rattle.script_engine.specs.Consuming.{ConsumesOne}
+use Rattle.script_engine.specs.Installing.{Installs, InstallsSome}
 use Rattle.script_engine.specs.Pulling.{Ends, IsAsked, TakesFiles, TakesPages}
 use Rattle.script_engine.specs.Text.{filled}
 
@@ -32,8 +34,8 @@ abbrev pub BeginsPages : World → ℕ → ℕ → List Update → World → Typ
 BeginsPages w puller server page new = (n : ℕ) × (listed : List Update) × (taken : ℕ) × TakesPages w puller server (take n page) listed taken None new
 
 -- the first of the listed files, if only none, are treated
-abbrev pub BeginsFiles : World → ℕ → ℕ → List Update → World → Type 0
-BeginsFiles w puller server files new = (n : ℕ) × (taken : ℕ) × TakesFiles w puller server (take n files) taken None new
+abbrev pub BeginsFiles : Scene → ℕ → ℕ → List Update → Scene → Type 0
+BeginsFiles s puller server files new = (n : ℕ) × (taken : ℕ) × TakesFiles s puller server (take n files) taken None new
 
 -- ---- lines
 
@@ -42,18 +44,18 @@ abbrev pub BeginsChange : World → ℕ → LocalOp → ℕ → World → Type 0
 BeginsChange w d operation moment new = (put : World) × (done : List Consumed) × OperatesOnce w d operation put × ConsumesSome put d moment done new
 
 -- behind the pages come some first files, or all of them and the end
-abbrev pub BeginsRest : World → ℕ → ℕ → Versions → List Update → World → Type 0
-BeginsRest w puller server s listed new =
-    BeginsFiles w puller server listed new
-    ⊎ ((taken : ℕ) × (last : World) × TakesFiles w puller server listed taken None last × Ends last puller s None new)
+abbrev pub BeginsRest : Scene → ℕ → ℕ → Versions → List Update → Scene → Type 0
+BeginsRest s puller server versions listed new =
+    BeginsFiles s puller server listed new
+    ⊎ ((taken : ℕ) × (last : Scene) × (w : World) × TakesFiles s puller server listed taken None last × Ends last.world puller versions None w × (new ≡ in_world last w))
 
 -- the server's vector is sent, then come some first updates of the pages, or all of them and what begins behind them
-abbrev pub BeginsPull : World → ℕ → ℕ → World → Type 0
-BeginsPull w puller server new =
-    (sent : World) × (page : List Update) × Step w server SendVector sent × IsAsked w puller server page
-    × (BeginsPages sent puller server page new
+abbrev pub BeginsPull : Scene → ℕ → ℕ → Scene → Type 0
+BeginsPull s puller server new =
+    (sent : World) × (page : List Update) × Step s.world server SendVector sent × IsAsked s.world puller server page
+    × (((w : World) × BeginsPages sent puller server page w × (new ≡ in_world s w))
     ⊎ ((listed : List Update) × (taken : ℕ) × (mid : World) × TakesPages sent puller server page listed taken None mid
-    × BeginsRest mid puller server (w.at server).known listed new))
+    × BeginsRest (in_world s mid) puller server (s.world.at server).known listed new))
 
 -- nothing was done, or this at the member with the name
 abbrev pub BeginsAt : Scene → List ℕ → (ℕ → World → Type 0) → Scene → Type 0
@@ -70,7 +72,9 @@ Begins s (lines.Remove name path) new = BeginsAt s name (λ d w. OperatesOnce s.
 Begins s (lines.Consume name moment) new = BeginsAt s name (λ d w. (c : Consumed) × ConsumesOne s.world d moment c w) new
 Begins s (lines.Change name path moment) new = BeginsAt s name (λ d w. BeginsChange s.world d (op.Put path []) moment w) new
 Begins s (lines.Pull name other) new =
-    BeginsAt s name (λ puller w. (server : ℕ) × IsNamed s other server × (bytes_eq name other ≡ false) × BeginsPull s.world puller server w) new
+    (new ≡ s) ⊎ ((puller : ℕ) × (server : ℕ) × IsNamed s name puller × IsNamed s other server × (bytes_eq name other ≡ false) × BeginsPull s puller server new)
+Begins s (lines.Install name) new = BeginsAt s name (λ d w. (step : InstallStep) × Installs s d (Ok (Some step)) w) new
+Begins s (lines.Drain name) new = BeginsAt s name (λ d w. (steps : List InstallStep) × InstallsSome s d steps w) new
 Begins s (lines.Show name) new = new ≡ s
 Begins s (lines.Tree name) new = new ≡ s
 Begins s (lines.Sums name) new = new ≡ s

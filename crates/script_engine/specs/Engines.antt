@@ -1,12 +1,13 @@
 -- Which scene an engine stands for, and what one event at a member makes of it.
-use Rattle.std.specs.Prelude.{◌≡◌, ◌<◌, ◌≤◌, ◌+◌, ◌^◌, ℕ, List, [], ◌∷◌, Option, Some, None, MatchOption, Result, Ok, Err, map, option_to_list, slice_get, slice_set, sum_by}
+use Rattle.std.specs.Prelude.{◌≡◌, ◌<◌, ◌≤◌, ◌+◌, ◌^◌, ℕ, List, [], ◌∷◌, Option, Some, None, MatchOption, Result, Ok, Err, length, map, option_to_list, slice_get, slice_set, sum_by}
 use Rattle.frs_base.specs.Identifiers.{database_of}
 use Rattle.vol_state.specs.declared.command.VolCmd.{VolCmd}
 use Rattle.vol_state.specs.declared.operation.LocalOp.{LocalOp}
 use Rattle.vol_state.specs.declared.operation.Refused.{Refused}
 use Rattle.vol_state.specs.Ways.{Resolves}
+use Rattle.name_rules.specs.declared.step.Step.{Step}
 use Rattle.world_model.specs.World.{World}
-use Rattle.world_model.specs.Events.{Step, Local as LocalEvent}
+use Rattle.world_model.specs.Events.{Step as WorldStep, Local as LocalEvent}
 use Rattle.folder_core.specs.declared.event.Event.{Event}
 use Rattle.folder_core.specs.declared.reply.Reply.{Reply}
 use Rattle.folder_core.specs.Machine.{Machine}
@@ -17,6 +18,7 @@ use Rattle.script_engine.specs.declared.engine.Engine.{Engine}
 use Rattle.script_engine.specs.declared.refusal.Refusal.{Refusal}
 use Rattle.script_engine.specs.declared.refusal.Refusal.TheVariants.{Unknown}
 use Rattle.script_engine.specs.Consuming.{ConsumesAll, ConsumesNext}
+use Rattle.script_engine.specs.Installing.{Drains}
 use Rattle.script_engine.specs.Named.{AreNamed}
 use Rattle.script_engine.specs.Scene.{Scene, members_of, place_of}
 use Rattle.script_engine.specs.Text.{IsRefused}
@@ -69,7 +71,7 @@ pub record Answered (at : ℕ) (event : Event) (reply : Reply) (old new : Engine
 
 -- a local operation is done and got this USN, or is refused
 abbrev pub Operated : World → ℕ → LocalOp → Result ℕ Refused → World → Type 0
-Operated w d operation (Ok usn) new = (cmd : VolCmd) × Resolves (w.at d).volume operation (Ok cmd) × Step w d (LocalEvent cmd) new × (usn ≡ (w.at d).volume.next_usn)
+Operated w d operation (Ok usn) new = (cmd : VolCmd) × Resolves (w.at d).volume operation (Ok cmd) × WorldStep w d (LocalEvent cmd) new × (usn ≡ (w.at d).volume.next_usn)
 Operated w d operation (Err why) new = Resolves (w.at d).volume operation (Err why) × (new ≡ w)
 
 -- the next journal record is consumed, or there is none, or it is refused
@@ -95,6 +97,11 @@ last_of (c ∷ more ∷ rest) = last_of (more ∷ rest)
 abbrev pub ConsumedAll : World → ℕ → ℕ → Result (Option Consumed) Refusal → World → Type 0
 ConsumedAll w d moment (Ok last) new = (done : List Consumed) × ConsumesAll w d moment done None new × (last_of done ≡ last)
 ConsumedAll w d moment (Err why) new = (done : List Consumed) × ConsumesAll w d moment done (Some why) new
+
+-- steps of the installer are done until none is left, so many, or one is refused
+abbrev pub DrainedBy : Scene → ℕ → Result ℕ Refusal → World → Type 0
+DrainedBy s d (Ok many) new = (steps : List Step) × Drains s d steps None new × (length steps ≡ many)
+DrainedBy s d (Err why) new = (steps : List Step) × Drains s d steps (Some why) new
 
 -- ---- lines
 

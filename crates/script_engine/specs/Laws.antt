@@ -9,6 +9,7 @@ use Rattle.world_model.specs.Rounds.{IsPage, IsRound, Round}
 use Rattle.world_model.specs.World.{World}
 use Rattle.pinned_pages.specs.Pages.{IsByVersion}
 use Rattle.script_engine.specs.Pulling.{IsAsked, Pulls}
+use Rattle.script_engine.specs.Scene.{Scene}
 use Rattle.script_engine.specs.Trees.{IsTreeOf, Row}
 
 -- maps have one tree
@@ -21,7 +22,7 @@ VolumesHaveTrees = (v : State) (m : Maps) → IsVolume v → Stands v m → (row
 
 -- a pull that isn't refused is a whole round of the world
 abbrev pub PullsAreRounds : Type 0
-PullsAreRounds = (w : World) (puller server taken : ℕ) (new : World) → Pulls w puller server taken None new → IsRound w puller server new
+PullsAreRounds = (s : Scene) (puller server taken : ℕ) (new : Scene) → Pulls s puller server taken None new → IsRound s.world puller server new.world
 
 -- a round over the server's vector, before its first page
 abbrev pub begun_round : World → ℕ → ℕ → Round

@@ -5,6 +5,7 @@ pub mod Refusals
 pub mod Widening
 pub mod Consuming
 pub mod Pulling
+pub mod Installing
 pub mod Trees
 pub mod Rows
 pub mod Laws

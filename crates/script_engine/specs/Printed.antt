@@ -6,6 +6,10 @@ use Rattle.frs_base.specs.Identifiers.{content_set}
 use Rattle.frs_base.specs.declared.version.Uid.{Uid}
 use Rattle.version_vector.specs.declared.interval.Interval.{Interval}
 use Rattle.win_order.specs.declared.update.Update.{Update}
+use Rattle.name_rules.specs.Steps.{step_word, subject_of}
+use Rattle.name_rules.specs.declared.step.Step.{Step}
+use Rattle.name_rules.specs.declared.step.Subject.{Subject}
+use Rattle.name_rules.specs.declared.step.Subject.TheVariants as subject
 use Rattle.script_engine.specs.declared.names.MemberName.{MemberName}
 
 -- a printed line: its words, parted by one space, and a line feed
@@ -20,6 +24,10 @@ name_of (m ∷ ms) db = if m.db == db then m.name else name_of ms db
 -- a version or a file: the member's name, a colon, the version
 abbrev pub version_word : List MemberName → ℕ → ℕ → List ℕ
 version_word names db version = name_of names db ++ (codes ":" ++ decimal version)
+
+-- a version of a member, by its name
+abbrev pub own_word : List ℕ → ℕ → List ℕ
+own_word name version = name ++ (codes ":" ++ decimal version)
 
 -- an interval: the first version, two dots, the first one past the last
 abbrev pub interval_word : List MemberName → Interval → List ℕ
@@ -59,3 +67,15 @@ place_words names u =
 -- UID GVSN KIND STATE PARENT NAME FENCE CLOCK CREATE
 abbrev pub record_words : List MemberName → Update → List (List ℕ)
 record_words names u = subject_words names u ++ place_words names u
+
+-- what a step is of: the file; of a journal record the version that it covers
+abbrev pub step_subject : List MemberName → List ℕ → Step → List ℕ
+step_subject names own step = of (subject_of step)
+  where
+    of : Subject → List ℕ
+    of (subject.Uid uid) = version_word names uid.db uid.version
+    of (subject.Usn usn) = own_word own usn
+
+-- the word of a step, and what it is of
+abbrev pub step_words : List MemberName → List ℕ → Step → List (List ℕ)
+step_words names own step = step_word step ∷ step_subject names own step ∷ []

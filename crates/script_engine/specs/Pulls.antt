@@ -1,8 +1,9 @@
 -- What the parts of a pull do.
-use Rattle.std.specs.Prelude.{◌≡◌, ◌⊎◌, ◌&&◌, not, ℕ, Bool, true, false, List, Option, Some, None, Result, Ok, Err}
+use Rattle.std.specs.Prelude.{◌≡◌, ◌⊎◌, ◌&&◌, not, ℕ, Bool, true, false, List, Option, Some, None, Result, Ok, Err, option_map}
 use Rattle.frs_base.specs.Options.{In}
 use Rattle.frs_base.specs.declared.version.Uid.{Uid}
-use Rattle.marshal_form.specs.Local.{IsLocalForm}
+use Rattle.marshal_form.specs.Local.{IsLocalForm, local}
+use Rattle.marshal_form.specs.Spelling.{spelling}
 use Rattle.version_vector.specs.Versions.{covers}
 use Rattle.version_vector.specs.declared.interval.Interval.{Interval}
 use Rattle.win_order.specs.declared.update.Update.{Update}
@@ -21,8 +22,8 @@ use Rattle.script_engine.specs.declared.engine.Engine.{Engine}
 use Rattle.script_engine.specs.declared.refusal.Refusal.{Refusal}
 use Rattle.script_engine.specs.declared.refusal.Refusal.TheVariants.{VectorFull}
 use Rattle.script_engine.specs.Engines.{Stands}
-use Rattle.script_engine.specs.Pulling.{Ends, IsLastPending, IsTooMuch, Pulls, Takes, TakesFiles, TakesPages}
-use Rattle.script_engine.specs.Scene.{Scene}
+use Rattle.script_engine.specs.Pulling.{Ends, Gives, IsLastPending, IsTooMuch, Pulls, Takes, TakesFiles, TakesPages, with_given}
+use Rattle.script_engine.specs.Scene.{Scene, in_world}
 use Rattle.script_engine.specs.Widening.{IsVectorOf}
 
 -- the versions that one vector covers and the other doesn't
@@ -53,6 +54,11 @@ Took w puller server u (Err why) new = (count : ℕ) × IsTooMuch w puller u cou
 -- the form that comes with a present file has its hash, and is one of a local file
 abbrev pub HasForm : Update → Option (List ℕ) → Type 0
 HasForm u given = is_file u ≡ true → (form : List ℕ) × (contents : List ℕ) × (given ≡ Some form) × (form_sum form ≡ u.hash) × IsLocalForm form contents
+
+-- the scene with what was given, where the update is taken; else as it was
+abbrev pub after_taking : Scene → ℕ → Update → Option (List ℕ) → Result (Unit {0}) Refusal → World → Scene
+after_taking s puller u given (Ok done) new = with_given s puller u given new
+after_taking s puller u given (Err why) new = in_world s new
 
 -- an engine that stands for a scene in which it can be taken
 abbrev pub MayTake : Engine → ℕ → ℕ → Update → Type 0
@@ -87,15 +93,21 @@ AreCovered w server files = (u : Update) → In u files → Covered w.all (w.at 
 abbrev pub MayFetch : Engine → ℕ → List Update → Type 0
 MayFetch e server files = (s : Scene) × Stands e s × AreCovered s.world server files
 
--- the server's record of a file with its form, or the USN of what it has to consume first
-abbrev pub FetchedFrom : World → ℕ → Uid → Result Fetched ℕ → Type 0
-FetchedFrom w server uid (Ok found) = (found.update.uid ≡ uid) × IsOfFile w server found.update × HasForm found.update found.form
-FetchedFrom w server uid (Err usn) = IsLastPending w server uid usn
+-- the form that comes is that of a local file with what was given
+abbrev pub IsFormOfGiven : Option (List ℕ) → Option (List ℕ) → Type 0
+IsFormOfGiven given form = form ≡ option_map (spelling local) given
+
+-- the server's record of a file with the form of its contents, or the USN of what it has to consume first
+abbrev pub FetchedFrom : Scene → ℕ → Uid → Result Fetched ℕ → Type 0
+FetchedFrom s server uid (Ok found) = (found.update.uid ≡ uid) × IsOfFile s.world server found.update × HasForm found.update found.form
+    × ((given : Option (List ℕ)) × Gives s server found.update given × IsFormOfGiven given found.form)
+FetchedFrom s server uid (Err usn) = IsLastPending s.world server uid usn
 
 -- the listed files are taken, or one is refused
-abbrev pub FilesTaken : World → ℕ → ℕ → List Update → Result ℕ Refusal → World → Type 0
-FilesTaken w puller server files (Ok taken) new = TakesFiles w puller server files taken None new × ((u : Update) → In u files → IsHeldOrBeaten (IsRecordOf new puller) u) × Grows w new
-FilesTaken w puller server files (Err why) new = (taken : ℕ) × TakesFiles w puller server files taken (Some why) new
+abbrev pub FilesTaken : Scene → ℕ → ℕ → List Update → Result ℕ Refusal → Scene → Type 0
+FilesTaken s puller server files (Ok taken) new =
+    TakesFiles s puller server files taken None new × ((u : Update) → In u files → IsHeldOrBeaten (IsRecordOf new.world puller) u) × Grows s.world new.world
+FilesTaken s puller server files (Err why) new = (taken : ℕ) × TakesFiles s puller server files taken (Some why) new
 
 -- ---- the end
 
@@ -117,6 +129,6 @@ Ended w puller s (Err why) new = Ends w puller s (Some why) new
 -- ---- the whole
 
 -- so many updates are taken, or it is refused on the way
-abbrev pub PullEnds : World → ℕ → ℕ → Result ℕ Refusal → World → Type 0
-PullEnds w puller server (Ok taken) new = Pulls w puller server taken None new
-PullEnds w puller server (Err why) new = (taken : ℕ) × Pulls w puller server taken (Some why) new
+abbrev pub PullEnds : Scene → ℕ → ℕ → Result ℕ Refusal → Scene → Type 0
+PullEnds s puller server (Ok taken) new = Pulls s puller server taken None new
+PullEnds s puller server (Err why) new = (taken : ℕ) × Pulls s puller server taken (Some why) new

@@ -50,6 +50,8 @@ first_refusal s (lines.Change name path moment) = unless_named s name
 first_refusal s (lines.Pull name other) =
     if is_some (place_of s.names name) then (if is_some (place_of s.names other) then (if bytes_eq name other then Some Itself else None) else Some (Unknown other))
     else Some (Unknown name)
+first_refusal s (lines.Install name) = unless_named s name
+first_refusal s (lines.Drain name) = unless_named s name
 first_refusal s (lines.Show name) = unless_named s name
 first_refusal s (lines.Tree name) = unless_named s name
 first_refusal s (lines.Sums name) = unless_named s name

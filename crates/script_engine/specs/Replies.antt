@@ -1,16 +1,17 @@
 -- What the replies to the events of lines say.
 use Rattle.std.specs.Prelude.{ℕ, Option, Some, None, Result, Ok, Err}
 use Rattle.vol_state.specs.declared.operation.Refused.{Refused as LocalRefused}
+use Rattle.name_rules.specs.declared.step.Step.{Step}
 use Rattle.pinned_pages.specs.declared.answer.FileAnswer.{FileAnswer}
 use Rattle.pinned_pages.specs.declared.pinned.Pinned.{Pinned}
 use Rattle.folder_core.specs.declared.refusal.Refusal.{Refusal as FolderRefusal}
 use Rattle.folder_core.specs.declared.refusal.Refusal.TheVariants as why
 use Rattle.folder_core.specs.declared.reply.Reply.{Reply}
-use Rattle.folder_core.specs.declared.reply.Reply.TheVariants.{Adopted, File, Finished, Made, Nothing, Refused, Sent, Skipped, Usn}
+use Rattle.folder_core.specs.declared.reply.Reply.TheVariants.{Adopted, Did, Drained, File, Finished, Made, Nothing, Refused, Sent, Skipped, Usn}
 use Rattle.script_engine.specs.declared.consumed.Consumed.{Consumed}
 use Rattle.script_engine.specs.declared.consumed.Consumed.TheVariants as consumed
 use Rattle.script_engine.specs.declared.refusal.Refusal.{Refusal}
-use Rattle.script_engine.specs.declared.refusal.Refusal.TheVariants.{VectorFull}
+use Rattle.script_engine.specs.declared.refusal.Refusal.TheVariants.{NotYet, VectorFull}
 
 -- the table of local operations refused it
 abbrev pub local_refusal : FolderRefusal → Option (Result ℕ LocalRefused)
@@ -52,3 +53,15 @@ taken_of Adopted = Some (Ok tt)
 taken_of Finished = Some (Ok tt)
 taken_of (Refused r) = full_refusal r
 taken_of other = None
+
+-- a local record is pending, or the vector would be too wide
+abbrev pub stop_of : FolderRefusal → Option (Result (Option Step) Refusal)
+stop_of (why.NotYet usn) = Some (Err (NotYet usn))
+stop_of other = full_refusal other
+
+-- the installer did a step, or had none to do, or was refused
+abbrev pub installed_of : Reply → Option (Result (Option Step) Refusal)
+installed_of (Did step) = Some (Ok (Some step))
+installed_of Drained = Some (Ok None)
+installed_of (Refused r) = stop_of r
+installed_of other = None

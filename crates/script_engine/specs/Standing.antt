@@ -3,9 +3,12 @@ use Rattle.std.specs.Prelude.{◌≡◌, ◌<◌, ◌≤◌, ◌+◌, ◌-◌, �
 use Rattle.frs_base.specs.Identifiers.{content_set, database_of}
 use Rattle.frs_base.specs.Options.{In}
 use Rattle.frs_base.specs.declared.version.Uid.{Uid}
+use Rattle.marshal_form.specs.Local.{local}
+use Rattle.marshal_form.specs.Spelling.{spelling}
 use Rattle.win_order.specs.declared.update.Update.{Update}
 use Rattle.vol_state.specs.Maps.{Stands as StandsForMaps}
 use Rattle.record_db.specs.Standing.{StandsFor}
+use Rattle.record_db.specs.State.{form_of}
 use Rattle.world_model.specs.World.{Member}
 use Rattle.folder_core.specs.Machine.{Machine}
 use Rattle.folder_core.specs.Notes.{form_sum}
@@ -23,6 +26,10 @@ pub record MachineStands (all : List Update) (x : Member) (d : ℕ) (m : Machine
   pub book : StandsFor all x.known x.consumed x.phase forms m.book
   pub staged : (uid : Uid) → x.staged uid ≡ option_map form_sum (forms uid)
   pub volume : StandsForMaps m.volume x.volume
+
+-- each form that is staged is that of a local file with these contents
+abbrev pub HoldsContents : (Uid → List ℕ) → Machine → Type 0
+HoldsContents contents m = (uid : Uid) (form : List ℕ) → form_of m.book uid ≡ Some form → form ≡ spelling local (contents uid)
 
 -- updates of the content set, none of them compressed
 abbrev pub AreOurs : List Update → Type 0
@@ -44,6 +51,7 @@ unconsumed_in m = m.volume.next_usn - m.book.consumed
 pub record MachinesStand (machines : List Machine) (s : Scene) : Type 0 where
   pub many : length machines ≡ length s.names
   pub each : (k : ℕ) (m : Machine) → slice_get machines k ≡ Some m → MachineStands s.world.all (s.world.at (database_of (k + 1))) (database_of (k + 1)) m
+  pub contents : (k : ℕ) (m : Machine) → slice_get machines k ≡ Some m → HoldsContents (s.contents (database_of (k + 1))) m
   pub ours : AreOurs s.world.all
   pub usns : (k : ℕ) (m : Machine) → slice_get machines k ≡ Some m → m.volume.next_usn < 2 ^ 64
   pub counted : length s.world.all ≤ sum_by recorded_in machines

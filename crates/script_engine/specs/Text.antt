@@ -1,5 +1,5 @@
 -- The text of a script: what its lines do to the world, and what they print.
-use Rattle.std.specs.Prelude.{◌≡◌, ℕ, ◌%◌, zero, suc, List, [], ◌∷◌, ◌++◌, MatchOption, MatchResult, Option, Some, None, Result, codes, count_by, decimal, flat_map, length}
+use Rattle.std.specs.Prelude.{◌≡◌, ℕ, ◌%◌, zero, suc, List, [], ◌∷◌, ◌++◌, MatchOption, MatchResult, Option, Some, None, Result, Ok, Err, codes, count_by, decimal, flat_map, length}
 use Rattle.version_vector.specs.declared.interval.Interval.{Interval}
 use Rattle.win_order.specs.declared.update.Update.{Update}
 use Rattle.vol_state.specs.declared.command.VolCmd.{VolCmd}
@@ -12,7 +12,8 @@ use Rattle.script_lang.specs.declared.line.Line.{Line}
 use Rattle.script_lang.specs.declared.line.Line.TheVariants as lines
 use Rattle.world_model.specs.World.{World, IsRecordOf}
 use Rattle.world_model.specs.Events.{Step, Local as LocalEvent}
-use Rattle.script_engine.specs.Printed.{printed, record_words, vector_words}
+use Rattle.name_rules.specs.declared.step.Step.{Step as InstallStep}
+use Rattle.script_engine.specs.Printed.{own_word, printed, record_words, step_words, vector_words}
 use Rattle.script_engine.specs.declared.names.MemberName.{MemberName}
 use Rattle.script_engine.specs.declared.consumed.Consumed.{Consumed}
 use Rattle.script_engine.specs.declared.consumed.Consumed.TheVariants.{Made, Skipped}
@@ -22,6 +23,7 @@ use Rattle.script_engine.specs.Scene.{Scene, IsNamed, fresh_scene, in_world, mem
 use Rattle.script_engine.specs.Refusals.{first_refusal, refused_text}
 use Rattle.script_engine.specs.Widening.{IsVectorOf}
 use Rattle.script_engine.specs.Consuming.{ConsumesAll, ConsumesNext}
+use Rattle.script_engine.specs.Installing.{Drains, Installs}
 use Rattle.script_engine.specs.Pulling.{Pulls}
 use Rattle.script_engine.specs.Trees.{IsTreeOf, Row, files_in, files_of, sums_text, tree_text}
 
@@ -34,10 +36,6 @@ vector_text names vector = printed (codes "vector" ∷ vector_words names vector
 -- the lines of records
 abbrev pub records_text : List MemberName → List Update → List ℕ
 records_text names records = flat_map (λ u. printed (record_words names u)) records
-
--- the member's name, a colon, the version
-abbrev pub own_word : List ℕ → ℕ → List ℕ
-own_word name version = name ++ (codes ":" ++ decimal version)
 
 -- what a local operation prints
 abbrev pub usn_text : ℕ → List ℕ
@@ -63,6 +61,12 @@ text_unless (Some why) text = refused_text why
 abbrev pub count_text : List Update → List Row → List Interval → List ℕ
 count_text records rows vector = printed (codes "records" ∷ decimal (length records) ∷ codes "live" ∷ decimal (count_by (λ u. u.present) records)
     ∷ codes "files" ∷ decimal (files_in rows) ∷ codes "intervals" ∷ decimal (length vector) ∷ [])
+
+-- what a step of the installer prints, or that none is left, or why it is refused
+abbrev pub installed_text : List MemberName → List ℕ → Result (Option InstallStep) Refusal → List ℕ
+installed_text names own (Ok None) = printed (codes "drained" ∷ [])
+installed_text names own (Ok (Some step)) = printed (step_words names own step)
+installed_text names own (Err why) = refused_text why
 
 -- contents of a pattern: byte i is i mod 251
 abbrev pub filled : ℕ → List ℕ
@@ -93,6 +97,16 @@ Changes s name d operation moment text new = (answer : Result VolCmd Refused) ×
     (λ cmd. (put : World) × (w : World) × (done : List Consumed) × (why : Option Refusal) × Step s.world d (LocalEvent cmd) put × ConsumesAll put d moment done why w
     × (text ≡ text_unless why (last_text name done)) × (new ≡ in_world s w))
     (λ why. IsRefused s (Local why) text new)
+
+-- the next step of the installer is done, or none is left, or it is refused
+abbrev pub InstallsNext : Scene → List ℕ → ℕ → List ℕ → Scene → Type 0
+InstallsNext s name d text new = (outcome : Result (Option InstallStep) Refusal) × (w : World) × Installs s d outcome w
+    × (text ≡ installed_text (members_of s) name outcome) × (new ≡ in_world s w)
+
+-- so are all that are left
+abbrev pub DrainsAll : Scene → ℕ → List ℕ → Scene → Type 0
+DrainsAll s d text new = (steps : List InstallStep) × (why : Option Refusal) × (w : World) × Drains s d steps why w
+    × (text ≡ text_unless why (printed (codes "drained" ∷ decimal (length steps) ∷ []))) × (new ≡ in_world s w)
 
 -- ---- what a line prints of a member
 
@@ -127,8 +141,10 @@ Acts s (lines.Remove name path) text new = (d : ℕ) × IsNamed s name d × Oper
 Acts s (lines.Consume name moment) text new = (d : ℕ) × IsNamed s name d × Consumes s name d moment text new
 Acts s (lines.Change name path moment) text new = (d : ℕ) × IsNamed s name d × Changes s name d (op.Put path []) moment text new
 Acts s (lines.Pull name other) text new =
-    (puller : ℕ) × (server : ℕ) × (taken : ℕ) × (why : Option Refusal) × (w : World) × IsNamed s name puller × IsNamed s other server
-    × Pulls s.world puller server taken why w × (text ≡ text_unless why (printed (codes "pulled" ∷ decimal taken ∷ []))) × (new ≡ in_world s w)
+    (puller : ℕ) × (server : ℕ) × (taken : ℕ) × (why : Option Refusal) × IsNamed s name puller × IsNamed s other server
+    × Pulls s puller server taken why new × (text ≡ text_unless why (printed (codes "pulled" ∷ decimal taken ∷ [])))
+Acts s (lines.Install name) text new = (d : ℕ) × IsNamed s name d × InstallsNext s name d text new
+Acts s (lines.Drain name) text new = (d : ℕ) × IsNamed s name d × DrainsAll s d text new
 Acts s (lines.Show name) text new = (d : ℕ) × IsNamed s name d × Shows s d text × (new ≡ s)
 Acts s (lines.Tree name) text new = (d : ℕ) × IsNamed s name d × PrintsTree s d text × (new ≡ s)
 Acts s (lines.Sums name) text new = (d : ℕ) × IsNamed s name d × PrintsSums s d text × (new ≡ s)
@@ -145,6 +161,8 @@ left_by s (lines.Remove name path) = s
 left_by s (lines.Consume name moment) = s
 left_by s (lines.Change name path moment) = s
 left_by s (lines.Pull name other) = s
+left_by s (lines.Install name) = s
+left_by s (lines.Drain name) = s
 left_by s (lines.Show name) = s
 left_by s (lines.Tree name) = s
 left_by s (lines.Sums name) = s

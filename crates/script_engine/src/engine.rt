@@ -6,6 +6,7 @@ ghost use Rattle.folder_core.specs.Replay as replay;
 ghost use Rattle.folder_core.specs.Sound.{IsSound};
 ghost use Rattle.script_engine.specs.Scene.{Scene, fresh_scene, in_world, with_name};
 
+mod installing;
 mod journal;
 mod operations;
 mod printing;
@@ -277,6 +278,8 @@ impl Engine {
                 self.change(alloc, name.as_slice(), path, *moment)
             }
             Line::Pull { name, other } => self.pull_line(alloc, name.as_slice(), other.as_slice()),
+            Line::Install { name } => self.install_line(alloc, name.as_slice()),
+            Line::Drain { name } => self.drain_line(alloc, name.as_slice()),
             Line::Show { name } => self.show(alloc, name.as_slice()),
             Line::Tree { name } => self.tree(alloc, name.as_slice()),
             Line::Sums { name } => self.sums(alloc, name.as_slice()),

@@ -1,14 +1,16 @@
 // What lines print, but for `show`, `tree`, `sums` and `count`.
-ghost use Rattle.std.specs.Prelude.{◌≡◌, ◌∷◌, [], true, IfOk, codes, decimal, option_to_list, string_bytes};
+ghost use Rattle.std.specs.Prelude.{◌≡◌, ◌∷◌, [], true, IfOk, Ok, codes, decimal, option_to_list, string_bytes};
 ghost use Rattle.script_lang.specs.Grammar.{is_member_name};
-ghost use Rattle.script_engine.specs.Named.{HasName};
-ghost use Rattle.script_engine.specs.Printed.{printed};
+ghost use Rattle.script_engine.specs.Named.{AreNamed, HasName};
+ghost use Rattle.script_engine.specs.Printed.{own_word, printed, step_subject};
 ghost use Rattle.script_engine.specs.Refusals.{refused_text};
-ghost use Rattle.script_engine.specs.Text.{consumed_text, last_text, own_word, usn_text};
+ghost use Rattle.script_engine.specs.Text.{consumed_text, installed_text, last_text, usn_text};
 ghost use Rattle.script_engine.specs.declared.refusal.Refusal.TheVariants.{Exists, Local, Unknown};
 
 use crate::names::text_of;
-use crate::{Consumed, Refusal};
+use crate::words::version_word;
+use crate::{Consumed, MemberName, Refusal};
+use name_rules::{Step, Subject};
 use std::alloc::{AllocError, Global};
 use vol_state::Refused;
 
@@ -72,6 +74,52 @@ pub(crate) fn last_text(
         None => String::from_str(alloc, "nothing\n"),
         Some(consumed) => consumed_text(alloc, name, consumed),
     }
+}
+
+/// What a step of the installer is of: the file, or the version of the member that a journal record
+/// has.
+fn subject_text(
+    alloc: Global,
+    names: &[MemberName],
+    own: &[u8],
+    step: &Step,
+) -> Result<String, AllocError>
+    requires names { AreNamed names.now }
+    requires own { is_member_name own.now ≡ true }
+    ensures { IfOk result (λ text. string_bytes text ≡ step_subject names.now own.now step.now) }
+{
+    match step.subject() {
+        Subject::Uid(uid) => version_word(alloc, names, uid.db, uid.version),
+        Subject::Usn(usn) => own_word(alloc, own, usn),
+    }
+}
+
+/// What a step of the installer prints, or that none was left.
+pub(crate) fn step_text(
+    alloc: Global,
+    names: &[MemberName],
+    own: &[u8],
+    step: Option<Step>,
+) -> Result<String, AllocError>
+    requires names { AreNamed names.now }
+    requires own { is_member_name own.now ≡ true }
+    ensures { IfOk result (λ text. string_bytes text ≡ installed_text names.now own.now (Ok step)) }
+{
+    match step {
+        None => String::from_str(alloc, "drained\n"),
+        Some(step) => {
+            let word = step.word();
+            let subject = subject_text(alloc, names, own, &step)?;
+            format!(in alloc; "{word} {subject}\n")
+        }
+    }
+}
+
+/// What a drain prints.
+pub(crate) fn drained_text(alloc: Global, steps: u128) -> Result<String, AllocError>
+    ensures { IfOk result (λ text. string_bytes text ≡ printed (codes "drained" ∷ decimal steps ∷ [])) }
+{
+    format!(in alloc; "drained {steps}\n")
 }
 
 /// What a line prints that names no member.

@@ -1,9 +1,10 @@
 // What the replies to the events of lines say.
 ghost use Rattle.std.specs.Prelude.{◌≡◌};
-ghost use Rattle.script_engine.specs.Replies.{consumed_of, file_of, pinned_of, taken_of, usn_of};
+ghost use Rattle.script_engine.specs.Replies.{consumed_of, file_of, installed_of, pinned_of, taken_of, usn_of};
 
 use crate::{Consumed, Refusal};
 use folder_core::Reply;
+use name_rules::Step;
 use pinned_pages::{FileAnswer, Pinned};
 use vol_state::Refused;
 
@@ -61,6 +62,23 @@ pub(crate) fn taken_of(reply: Reply) -> Option<Result<(), Refusal>>
         Reply::Adopted | Reply::Finished => Some(Ok(())),
         Reply::Refused(folder_core::Refusal::VectorFull { count }) => {
             Some(Err(Refusal::VectorFull { count }))
+        }
+        _ => None,
+    }
+}
+
+/// The installer did a step, or had none to do, or was refused.
+pub(crate) fn installed_of(reply: &Reply) -> Option<Result<Option<Step>, Refusal>>
+    ensures { result ≡ installed_of reply.now }
+{
+    match reply {
+        Reply::Did(step) => Some(Ok(Some(*step))),
+        Reply::Drained => Some(Ok(None)),
+        Reply::Refused(folder_core::Refusal::NotYet { usn }) => {
+            Some(Err(Refusal::NotYet { usn: *usn }))
+        }
+        Reply::Refused(folder_core::Refusal::VectorFull { count }) => {
+            Some(Err(Refusal::VectorFull { count: *count }))
         }
         _ => None,
     }

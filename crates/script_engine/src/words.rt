@@ -15,7 +15,7 @@ use win_order::Update;
 const DIRECTORY: u32 = 0x10;
 
 /// A version or a file: the member's name and the version.
-fn version_word(
+pub(crate) fn version_word(
     alloc: Global,
     names: &[MemberName],
     db: Guid,

@@ -8,7 +8,7 @@ use Rattle.std.proofs.lemmas.Str.{IsCharBoundary-after_ascii, IsUtf8-drop}
 use Rattle.script_lang.specs.declared.errors.RowError.{RowError}
 use Rattle.script_lang.specs.declared.errors.RowError.TheVariants.{Bad, Memory}
 use Rattle.script_lang.specs.declared.line.Line.{Line}
-use Rattle.script_lang.specs.declared.line.Line.TheVariants.{Member, Put, Fill, Mkdir, Move, Remove, Consume, Change, Pull, Show, Tree, Sums, Count}
+use Rattle.script_lang.specs.declared.line.Line.TheVariants.{Member, Put, Fill, Mkdir, Move, Remove, Consume, Change, Pull, Install, Drain, Show, Tree, Sums, Count}
 use Rattle.script_lang.specs.declared.words.Keyword.{Keyword}
 use Rattle.script_lang.specs.declared.words.Keyword.TheVariants as keyword
 use Rattle.script_lang.specs.Grammar.{HasNoLineFeed, IsLine, IsText, is_member_name, is_path, kind_word, length_limit, moment_limit, path_word, spelling, words}
@@ -44,6 +44,8 @@ taken : (line made : Line) (ws : List (List ℕ)) → Some made ≡ Some line �
 taken line made ws e valid is = let same : made ≡ line = cc in subst (λ l. Takes l ws) same (valid, is)
 
 two_by : (k : Keyword) (a name : List ℕ) (line : Line) → is_member_name name ≡ true → a ≡ name → two_words k name ≡ Some line → Takes line (keyword_word k ∷ a ∷ [])
+two_by keyword.Install a name line valid is e = taken line (Install name) _ e valid (λ i. codes "install" ∷ is i ∷ [])
+two_by keyword.Drain a name line valid is e = taken line (Drain name) _ e valid (λ i. codes "drain" ∷ is i ∷ [])
 two_by keyword.Show a name line valid is e = taken line (Show name) _ e valid (λ i. codes "show" ∷ is i ∷ [])
 two_by keyword.Tree a name line valid is e = taken line (Tree name) _ e valid (λ i. codes "tree" ∷ is i ∷ [])
 two_by keyword.Sums a name line valid is e = taken line (Sums name) _ e valid (λ i. codes "sums" ∷ is i ∷ [])
@@ -151,6 +153,8 @@ again (Change name path moment) (valid, form, below) =
     ∙ ap (λ o. o >>= λ n. Some (Change name path n)) (number_again moment_limit moment below (omega arith))
 again (Pull name other) (valid, form) =
     ap (λ o. o >>= three_words keyword.Pull other) (name_again name valid) ∙ ap (λ o. o >>= λ n. Some (Pull name n)) (name_again other form)
+again (Install name) valid = ap (λ o. o >>= two_words keyword.Install) (name_again name valid)
+again (Drain name) valid = ap (λ o. o >>= two_words keyword.Drain) (name_again name valid)
 again (Show name) valid = ap (λ o. o >>= two_words keyword.Show) (name_again name valid)
 again (Tree name) valid = ap (λ o. o >>= two_words keyword.Tree) (name_again name valid)
 again (Sums name) valid = ap (λ o. o >>= two_words keyword.Sums) (name_again name valid)
@@ -177,6 +181,8 @@ parted (Remove name path) (valid, form) = cut_three (codes "remove") name (path_
 parted (Consume name moment) (valid, below) = cut_three (codes "consume") name (decimal moment) (literal (codes "consume") refl) (name_whole name valid) (number_whole moment (omega arith))
 parted (Change name path moment) (valid, form, below) = cut_four (codes "change") name (path_word path) (decimal moment) (literal (codes "change") refl) (name_whole name valid) (path_whole path form)
 parted (Pull name other) (valid, form) = cut_three (codes "pull") name other (literal (codes "pull") refl) (name_whole name valid) (name_whole other form)
+parted (Install name) valid = cut_two (codes "install") name (literal (codes "install") refl) (name_whole name valid)
+parted (Drain name) valid = cut_two (codes "drain") name (literal (codes "drain") refl) (name_whole name valid)
 parted (Show name) valid = cut_two (codes "show") name (literal (codes "show") refl) (name_whole name valid)
 parted (Tree name) valid = cut_two (codes "tree") name (literal (codes "tree") refl) (name_whole name valid)
 parted (Sums name) valid = cut_two (codes "sums") name (literal (codes "sums") refl) (name_whole name valid)

@@ -11,7 +11,7 @@ use Rattle.std.proofs.lemmas.List.Sums.{length-filter, sum_by-take-le}
 use Rattle.std.proofs.lemmas.Option.{slice_get-get_or, slice_get-map}
 use Rattle.std.proofs.Math.Seq.{get_or-append_seam, split_at, take-append_seam}
 use Rattle.script_lang.specs.declared.line.Line.{Line}
-use Rattle.script_lang.specs.declared.line.Line.TheVariants.{Member, Put, Fill, Mkdir, Move, Remove, Consume, Change, Pull, Show, Tree, Sums, Count}
+use Rattle.script_lang.specs.declared.line.Line.TheVariants.{Member, Put, Fill, Mkdir, Move, Remove, Consume, Change, Pull, Install, Drain, Show, Tree, Sums, Count}
 use Rattle.script_lang.specs.Grammar.{HasNoLineFeed, IsLine, spelling}
 use Rattle.script_lang.specs.Laws.{FirstBadRowsAreOne, LinesStandInRows, ScriptsHaveNoBadRow, ScriptsHaveOneList, SpellingsAreScripts}
 use Rattle.script_lang.specs.Script.{IsBadRow, IsFirstBad, SpellLines, rows, says_something}
@@ -35,6 +35,8 @@ says (Remove name path) = refl
 says (Consume name moment) = refl
 says (Change name path moment) = refl
 says (Pull name other) = refl
+says (Install name) = refl
+says (Drain name) = refl
 says (Show name) = refl
 says (Tree name) = refl
 says (Sums name) = refl

@@ -12,7 +12,7 @@ use Rattle.std.proofs.lemmas.Str.Parse.{digit_at}
 use Rattle.frs_base.specs.declared.kind.MemberKind.{MemberKind}
 use Rattle.frs_base.specs.declared.kind.MemberKind.TheVariants.{Primary, Plain}
 use Rattle.script_lang.specs.declared.line.Line.{Line}
-use Rattle.script_lang.specs.declared.line.Line.TheVariants.{Member, Put, Fill, Mkdir, Move, Remove, Consume, Change, Pull, Show, Tree, Sums, Count}
+use Rattle.script_lang.specs.declared.line.Line.TheVariants.{Member, Put, Fill, Mkdir, Move, Remove, Consume, Change, Pull, Install, Drain, Show, Tree, Sums, Count}
 use Rattle.script_lang.specs.Grammar.{IsLine, IsText, is_component, is_member_name, is_path, is_path_byte, is_small_letter, kind_word, path_word, spelling, words}
 use Rattle.script_lang.proofs.Numbers.{own}
 use Rattle.script_lang.proofs.Values.{component_bytes, components, halves}
@@ -82,6 +82,8 @@ words_are_text (Remove name path) (valid, form) = (literal_text (codes "remove")
 words_are_text (Consume name moment) (valid, below) = (literal_text (codes "consume") refl, (name_is_text name valid, (number_is_text moment (omega arith), tt)))
 words_are_text (Change name path moment) (valid, form, below) = (literal_text (codes "change") refl, (name_is_text name valid, (path_is_text path form, (number_is_text moment (omega arith), tt))))
 words_are_text (Pull name other) (valid, form) = (literal_text (codes "pull") refl, (name_is_text name valid, (name_is_text other form, tt)))
+words_are_text (Install name) valid = (literal_text (codes "install") refl, (name_is_text name valid, tt))
+words_are_text (Drain name) valid = (literal_text (codes "drain") refl, (name_is_text name valid, tt))
 words_are_text (Show name) valid = (literal_text (codes "show") refl, (name_is_text name valid, tt))
 words_are_text (Tree name) valid = (literal_text (codes "tree") refl, (name_is_text name valid, tt))
 words_are_text (Sums name) valid = (literal_text (codes "sums") refl, (name_is_text name valid, tt))

@@ -36,6 +36,8 @@ keyword_word keyword.Remove = codes "remove"
 keyword_word keyword.Consume = codes "consume"
 keyword_word keyword.Change = codes "change"
 keyword_word keyword.Pull = codes "pull"
+keyword_word keyword.Install = codes "install"
+keyword_word keyword.Drain = codes "drain"
 keyword_word keyword.Show = codes "show"
 keyword_word keyword.Tree = codes "tree"
 keyword_word keyword.Sums = codes "sums"
@@ -61,10 +63,12 @@ keyword_takes word k e =
     (one_test word (codes "consume") keyword.Consume _ k refl
     (one_test word (codes "change") keyword.Change _ k refl
     (one_test word (codes "pull") keyword.Pull _ k refl
+    (one_test word (codes "install") keyword.Install _ k refl
+    (one_test word (codes "drain") keyword.Drain _ k refl
     (one_test word (codes "show") keyword.Show _ k refl
     (one_test word (codes "tree") keyword.Tree _ k refl
     (one_test word (codes "sums") keyword.Sums _ k refl
-    (one_test word (codes "count") keyword.Count None k refl (λ none. absurd (cc)))))))))))))) e
+    (one_test word (codes "count") keyword.Count None k refl (λ none. absurd (cc)))))))))))))))) e
 
 -- ---- names and kinds
 

@@ -4,7 +4,7 @@ use Rattle.std.specs.List.{join_with_byte, list_all}
 use Rattle.frs_base.specs.declared.kind.MemberKind.{MemberKind}
 use Rattle.frs_base.specs.declared.kind.MemberKind.TheVariants.{Primary, Plain}
 use Rattle.script_lang.specs.declared.line.Line.{Line}
-use Rattle.script_lang.specs.declared.line.Line.TheVariants.{Member, Put, Fill, Mkdir, Move, Remove, Consume, Change, Pull, Show, Tree, Sums, Count}
+use Rattle.script_lang.specs.declared.line.Line.TheVariants.{Member, Put, Fill, Mkdir, Move, Remove, Consume, Change, Pull, Install, Drain, Show, Tree, Sums, Count}
 
 -- ---- values in form
 
@@ -67,6 +67,8 @@ words (Remove name path) = codes "remove" ∷ name ∷ path_word path ∷ []
 words (Consume name moment) = codes "consume" ∷ name ∷ decimal moment ∷ []
 words (Change name path moment) = codes "change" ∷ name ∷ path_word path ∷ decimal moment ∷ []
 words (Pull name other) = codes "pull" ∷ name ∷ other ∷ []
+words (Install name) = codes "install" ∷ name ∷ []
+words (Drain name) = codes "drain" ∷ name ∷ []
 words (Show name) = codes "show" ∷ name ∷ []
 words (Tree name) = codes "tree" ∷ name ∷ []
 words (Sums name) = codes "sums" ∷ name ∷ []
@@ -87,6 +89,8 @@ IsLine (Remove name path) = (is_member_name name ≡ true) × (is_path path ≡ 
 IsLine (Consume name moment) = (is_member_name name ≡ true) × (moment < moment_limit)
 IsLine (Change name path moment) = (is_member_name name ≡ true) × (is_path path ≡ true) × (moment < moment_limit)
 IsLine (Pull name other) = (is_member_name name ≡ true) × (is_member_name other ≡ true)
+IsLine (Install name) = is_member_name name ≡ true
+IsLine (Drain name) = is_member_name name ≡ true
 IsLine (Show name) = is_member_name name ≡ true
 IsLine (Tree name) = is_member_name name ≡ true
 IsLine (Sums name) = is_member_name name ≡ true

@@ -7,7 +7,7 @@ use Rattle.frs_base.specs.declared.kind.MemberKind.TheVariants.{Primary, Plain}
 use Rattle.script_lang.specs.declared.errors.RowError.{RowError}
 use Rattle.script_lang.specs.declared.errors.RowError.TheVariants.{Bad, Memory}
 use Rattle.script_lang.specs.declared.line.Line.{Line}
-use Rattle.script_lang.specs.declared.line.Line.TheVariants.{Member, Put, Fill, Mkdir, Move, Remove, Consume, Change, Pull, Show, Tree, Sums, Count}
+use Rattle.script_lang.specs.declared.line.Line.TheVariants.{Member, Put, Fill, Mkdir, Move, Remove, Consume, Change, Pull, Install, Drain, Show, Tree, Sums, Count}
 use Rattle.script_lang.specs.declared.words.Keyword.{Keyword}
 use Rattle.script_lang.specs.declared.words.Keyword.TheVariants as keyword
 use Rattle.script_lang.specs.Grammar.{IsLine, is_member_name, is_path, length_limit, moment_limit, spelling}
@@ -53,11 +53,13 @@ keyword_in word =
     else (if bytes_eq word (codes "consume") then Some keyword.Consume
     else (if bytes_eq word (codes "change") then Some keyword.Change
     else (if bytes_eq word (codes "pull") then Some keyword.Pull
+    else (if bytes_eq word (codes "install") then Some keyword.Install
+    else (if bytes_eq word (codes "drain") then Some keyword.Drain
     else (if bytes_eq word (codes "show") then Some keyword.Show
     else (if bytes_eq word (codes "tree") then Some keyword.Tree
     else (if bytes_eq word (codes "sums") then Some keyword.Sums
     else (if bytes_eq word (codes "count") then Some keyword.Count
-    else None))))))))))))
+    else None))))))))))))))
 
 -- the kind of member that a word spells
 abbrev pub kind_in : List ℕ → Option MemberKind
@@ -86,6 +88,8 @@ number_in limit word =
 
 -- the line of two words
 abbrev pub two_words : Keyword → List ℕ → Option Line
+two_words keyword.Install name = Some (Install name)
+two_words keyword.Drain name = Some (Drain name)
 two_words keyword.Show name = Some (Show name)
 two_words keyword.Tree name = Some (Tree name)
 two_words keyword.Sums name = Some (Sums name)

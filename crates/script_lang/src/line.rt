@@ -79,6 +79,16 @@ pub enum Line {
         /// The member that it pulls from.
         other: Bytes,
     },
+    /// `install M`: does the next step that brings a member's volume nearer its records.
+    Install {
+        /// The member.
+        name: Bytes,
+    },
+    /// `drain M`: does such steps until none is left.
+    Drain {
+        /// The member.
+        name: Bytes,
+    },
     /// `show M`: prints what a member covers, and its records.
     Show {
         /// The member.

@@ -126,6 +126,8 @@ pub fn print(alloc: Global, line: &Line) -> Result<String, AllocError>
             four_words(alloc, "change", name, &path, &moment.to_string(alloc)?)
         }
         Line::Pull { name, other } => three_words(alloc, "pull", name, name_text(other)),
+        Line::Install { name } => two_words(alloc, "install", name),
+        Line::Drain { name } => two_words(alloc, "drain", name),
         Line::Show { name } => two_words(alloc, "show", name),
         Line::Tree { name } => two_words(alloc, "tree", name),
         Line::Sums { name } => two_words(alloc, "sums", name),

@@ -23,6 +23,8 @@ fn line_of_two(alloc: Global, keyword: Keyword, name: &str) -> Result<Line, RowE
 {
     let name = member_name_of(alloc, name)?;
     match keyword {
+        Keyword::Install => Ok(Line::Install { name }),
+        Keyword::Drain => Ok(Line::Drain { name }),
         Keyword::Show => Ok(Line::Show { name }),
         Keyword::Tree => Ok(Line::Tree { name }),
         Keyword::Sums => Ok(Line::Sums { name }),

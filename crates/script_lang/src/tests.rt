@@ -5,7 +5,7 @@ use std::process::Abort;
 use std::test::Fail;
 
 /// Scripts, and how many lines each has.
-const GOOD: [(&str, usize); 41] = [
+const GOOD: [(&str, usize); 43] = [
     ("", 0),
     ("\n", 0),
     ("\n\n\n", 0),
@@ -39,6 +39,8 @@ const GOOD: [(&str, usize); 41] = [
     ("change a x/y 100", 1),
     ("pull a b", 1),
     ("pull a a", 1),
+    ("install a", 1),
+    ("drain a", 1),
     ("show a", 1),
     ("tree a", 1),
     ("sums a", 1),
@@ -50,7 +52,7 @@ const GOOD: [(&str, usize); 41] = [
 ];
 
 /// Bytes with a row outside the grammar, and the number of the first.
-const BAD: [(&[u8], u64); 44] = [
+const BAD: [(&[u8], u64); 46] = [
     (b"show", 1),
     (b"show ", 1),
     (b"show a ", 1),
@@ -64,6 +66,8 @@ const BAD: [(&[u8], u64); 44] = [
     (b"show A", 1),
     (b"show a1", 1),
     (b"show a b", 1),
+    (b"install", 1),
+    (b"drain a b", 1),
     (b"sums", 1),
     (b"sums a b", 1),
     (b"sums  a", 1),
@@ -174,6 +178,8 @@ fn expect_row(
 fn line_of(alloc: Global, keyword: &str, name: &str) -> Result<Line, Fail> {
     let name = bytes_of(alloc, name)?;
     match keyword {
+        "install" => Ok(Line::Install { name }),
+        "drain" => Ok(Line::Drain { name }),
         "show" => Ok(Line::Show { name }),
         "tree" => Ok(Line::Tree { name }),
         "sums" => Ok(Line::Sums { name }),
@@ -203,6 +209,8 @@ fn members_are_read_and_printed(rt: HostRuntime) -> Result<(), Fail> {
         expect_row(&rt, alloc, row, member_line(alloc, name, kind))?;
     }
     for (row, keyword) in [
+        ("install z", "install"),
+        ("drain z", "drain"),
         ("show z", "show"),
         ("tree z", "tree"),
         ("sums z", "sums"),
