@@ -1,5 +1,6 @@
 -- A step of the installer at a member, and a drain.
-use Rattle.std.specs.Prelude.{◌≡◌, ℕ, List, [], ◌∷◌, MatchOption, Option, Some, None, Result, Ok, Err}
+use Rattle.std.specs.Prelude.{◌≡◌, ℕ, List, [], ◌∷◌, Option, Some, None, Result, Ok, Err}
+use Rattle.frs_base.specs.declared.sum.Sum.{Sum}
 use Rattle.frs_base.specs.declared.version.Uid.{Uid}
 use Rattle.vol_state.specs.declared.object.Object.{Object}
 use Rattle.vol_state.specs.declared.command.VolCmd.{VolCmd}
@@ -20,9 +21,14 @@ use Rattle.script_engine.specs.Consuming.{ConsumesOne, widened}
 use Rattle.script_engine.specs.Scene.{Scene, in_world}
 use Rattle.script_engine.specs.Widening.{Exceeds}
 
--- the contents that are staged of a file, none where nothing is
+-- these contents where a sum is staged, none where nothing is
+abbrev pub contents_if : Option Sum → List ℕ → List ℕ
+contents_if None bytes = []
+contents_if (Some sum) bytes = bytes
+
+-- the contents that are staged of a file
 abbrev pub staged_contents : Scene → ℕ → Uid → List ℕ
-staged_contents s d uid = MatchOption ((s.world.at d).staged uid) [] (λ sum. s.contents d uid)
+staged_contents s d uid = contents_if ((s.world.at d).staged uid) (s.contents d uid)
 
 -- an operation that gives a file contents gives those that are staged of it
 abbrev pub GivesStaged : Scene → ℕ → VolCmd → Type 0

@@ -1,5 +1,5 @@
 -- The members of a script and their world.
-use Rattle.std.specs.Prelude.{◌≡◌, ℕ, ◌+◌, List, [], ◌∷◌, ◌++◌, MatchOption, Option, Some, bytes_eq, length, position}
+use Rattle.std.specs.Prelude.{◌≡◌, ℕ, ◌+◌, List, [], ◌∷◌, ◌++◌, Option, Some, None, bytes_eq, length, position}
 use Rattle.frs_base.specs.Identifiers.{database_of}
 use Rattle.frs_base.specs.declared.kind.MemberKind.{MemberKind}
 use Rattle.frs_base.specs.declared.kind.MemberKind.TheVariants.{Plain}
@@ -46,7 +46,8 @@ in_world s w = record s { world = w }
 
 -- what was staged last, once these contents, if any, were staged of a file at a member
 abbrev pub with_contents : Contents → ℕ → Uid → Option (List ℕ) → Contents
-with_contents contents d uid given = MatchOption given contents (λ bytes. with_at contents d (with_uid (contents d) uid bytes))
+with_contents contents d uid None = contents
+with_contents contents d uid (Some bytes) = with_at contents d (with_uid (contents d) uid bytes)
 
 -- one member more, of this kind; until then it is a member that has done nothing
 abbrev pub with_name : Scene → List ℕ → MemberKind → Scene

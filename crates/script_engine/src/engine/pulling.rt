@@ -61,7 +61,7 @@ fn page_of(
 }
 
 impl Engine {
-    ghost use Rattle.std.specs.Prelude.{◌+◌, ℕ};
+    ghost use Rattle.std.specs.Prelude.{◌+◌, List, Option, ℕ};
     ghost use Rattle.win_order.specs.declared.update.Update.{Update};
     ghost use Rattle.world_model.specs.World.{World};
     ghost use Rattle.script_lang.specs.Grammar.{is_member_name};
@@ -72,7 +72,7 @@ impl Engine {
     ghost use Rattle.script_engine.specs.Engines.{HasRoom, HasScene, Stands, local_by_all};
     ghost use Rattle.script_engine.specs.Text.{Does};
     ghost use Rattle.script_engine.specs.Begun.{Begins, BeginsFiles, BeginsPages, BeginsPull};
-    ghost use Rattle.script_engine.specs.Pulls.{AreCovered, ArePages, CanTake, Ended, FetchedFrom, FilesTaken, HasForm, IsPinned, MayEnd, MayFetch, MayFinish, MayPage, MayTake, PagesTaken, PullEnds, Says, Took};
+    ghost use Rattle.script_engine.specs.Pulls.{AreCovered, ArePages, CanTake, Ended, FetchedFrom, FilesTaken, HasForm, IsFormOfGiven, IsPinned, MayEnd, MayFetch, MayFinish, MayPage, MayTake, PagesTaken, PullEnds, Says, Took, after_taking};
 
     /// The vector and the records of the member with this place.
     fn ask(&mut self, alloc: Global, at: usize) -> Result<Pinned, AllocError>
@@ -118,7 +118,8 @@ impl Engine {
         requires form { HasForm update form }
         requires may { MayTake self.old (database_of (at + 1)) from update }
         requires room { local_by_all self.old < 2 ^ 60 }
-        ensures ok { (s : Scene) → Stands self.old s → CanTake s.world (database_of (at + 1)) from update → IfOk result (λ outcome. (w : World) × Took s.world (database_of (at + 1)) from update outcome w × Stands self.new (in_world s w)) }
+        ensures ok { (s : Scene) (given : Option (List ℕ)) → Stands self.old s → CanTake s.world (database_of (at + 1)) from update → IsFormOfGiven given form
+            → IfOk result (λ outcome. (w : World) × Took s.world (database_of (at + 1)) from update outcome w × Stands self.new (after_taking s (database_of (at + 1)) update given outcome w)) }
         ensures err { (s : Scene) → Stands self.old s → OnErr result (Stands self.new s) }
         ensures came { IfOk result (λ outcome. Came at (Event.Adopt from entry update form) taken_of outcome self.old self.new) }
         ensures made { OnOk result (local_by_all self.new ≡ local_by_all self.old) }
@@ -148,7 +149,7 @@ impl Engine {
         requires within { at < length self.old.folders.items }
         requires may { (s : Scene) × Stands self.old s × Covered s.world.all (s.world.at (database_of (at + 1))).known update.now }
         ensures ok { (s : Scene) → Stands self.old s → Covered s.world.all (s.world.at (database_of (at + 1))).known update.now
-            → IfOk result (λ outcome. FetchedFrom s.world (database_of (at + 1)) update.now.uid outcome × Stands self.new s) }
+            → IfOk result (λ outcome. FetchedFrom s (database_of (at + 1)) update.now.uid outcome × Stands self.new s) }
         ensures err { (s : Scene) → Stands self.old s → OnErr result (Stands self.new s) }
         ensures came { IfOk result (λ outcome. Came at (Event.File update.now.uid) file_of (answer_of outcome) self.old self.new) }
         ensures made { OnOk result (local_by_all self.new ≡ local_by_all self.old) }
@@ -253,9 +254,9 @@ impl Engine {
         requires may { MayFetch self.old (database_of (from + 1)) files.now }
         requires room { local_by_all self.old < 2 ^ 60 }
         ensures ok { (s : Scene) → Stands self.old s → AreCovered s.world (database_of (from + 1)) files.now
-            → IfOk result (λ outcome. (w : World) × FilesTaken s.world (database_of (at + 1)) (database_of (from + 1)) files.now outcome w × Stands self.new (in_world s w)) }
+            → IfOk result (λ outcome. (new : Scene) × FilesTaken s (database_of (at + 1)) (database_of (from + 1)) files.now outcome new × Stands self.new new) }
         ensures err { (s : Scene) → Stands self.old s → AreCovered s.world (database_of (from + 1)) files.now
-            → OnErr result ((w : World) × BeginsFiles s.world (database_of (at + 1)) (database_of (from + 1)) files.now w × Stands self.new (in_world s w)) }
+            → OnErr result ((new : Scene) × BeginsFiles s (database_of (at + 1)) (database_of (from + 1)) files.now new × Stands self.new new) }
         ensures few { IfOk result (λ outcome. IfOk outcome (λ taken. taken ≤ length files.now)) }
         ensures fetched { IfOk result (λ outcome. IfOk outcome (λ taken. Fetches at from (database_of (from + 1)) taken self.old self.new)) }
         ensures made { OnOk result (local_by_all self.new ≡ local_by_all self.old) }
@@ -296,9 +297,9 @@ impl Engine {
         requires scene { HasScene self.old }
         requires room { local_by_all self.old < 2 ^ 60 }
         ensures ok { (s : Scene) → Stands self.old s
-            → IfOk result (λ outcome. (w : World) × PullEnds s.world (database_of (at + 1)) (database_of (from + 1)) outcome w × Stands self.new (in_world s w)) }
+            → IfOk result (λ outcome. (new : Scene) × PullEnds s (database_of (at + 1)) (database_of (from + 1)) outcome new × Stands self.new new) }
         ensures err { (s : Scene) → Stands self.old s
-            → OnErr result ((w : World) × ((w ≡ s.world) ⊎ BeginsPull s.world (database_of (at + 1)) (database_of (from + 1)) w) × Stands self.new (in_world s w)) }
+            → OnErr result ((new : Scene) × ((new ≡ s) ⊎ BeginsPull s (database_of (at + 1)) (database_of (from + 1)) new) × Stands self.new new) }
         ensures pulled { IfOk result (λ outcome. IfOk outcome (λ taken. Pulled at from (database_of (from + 1)) taken self.old self.new)) }
         ensures made { OnOk result (local_by_all self.new ≡ local_by_all self.old) }
     {
