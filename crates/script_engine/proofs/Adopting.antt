@@ -7,7 +7,8 @@ use Rattle.frs_base.specs.Options.{In, kept_if}
 use Rattle.frs_base.specs.Versions.{same_uid}
 use Rattle.frs_base.specs.declared.kind.Kind.{Kind}
 use Rattle.frs_base.specs.declared.kind.Kind.TheVariants.{Directory, File}
-use Rattle.marshal_form.specs.Local.{IsLocalForm}
+use Rattle.marshal_form.specs.Local.{IsLocalForm, local}
+use Rattle.marshal_form.specs.Spelling.{spelling}
 use Rattle.marshal_form.proofs.Locals.{local_forms_have_no_bad_place}
 use Rattle.version_vector.specs.Versions.{covers}
 use Rattle.win_order.specs.Order.{Beats, key_lt, key_of}
@@ -23,6 +24,7 @@ use Rattle.vol_state.proofs.Finding.{in_at}
 use Rattle.record_db.specs.declared.command.BookCmd.TheVariants as cmd
 use Rattle.record_db.specs.Records.{Covered, plus}
 use Rattle.record_db.specs.Staged.{with_uid}
+use Rattle.record_db.specs.Standing.{StandsFor}
 use Rattle.record_db.proofs.Best.{one_held}
 use Rattle.record_db.proofs.Keys.{same_uid_is}
 use Rattle.record_db.proofs.Lists.{find_in, found_held}
@@ -34,6 +36,7 @@ use Rattle.world_model.specs.Events.{Step, Adopt, WasSent, adopted_by}
 use Rattle.world_model.specs.Laws.{IsFitToAdopt}
 use Rattle.world_model.specs.Rounds.{IsWanted}
 use Rattle.world_model.proofs.Changing.{at_same}
+use Rattle.world_model.proofs.Facts.{none_some}
 use Rattle.world_model.proofs.Flight.{adoptions_fit}
 use Rattle.folder_core.specs.declared.refusal.Refusal.{Refusal}
 use Rattle.folder_core.specs.declared.refusal.Refusal.TheVariants.{Beaten, Doubled, KindDiffers, OwnAhead, Unfit, VectorFull}
@@ -44,9 +47,10 @@ use Rattle.folder_core.specs.Notes.{form_sum}
 use Rattle.folder_core.specs.Adopt.{AnswersAdopt, AnswersForm, ChecksForm, adopt_refusal, beaten, doubled, kind_at, kind_differs, own_ahead, same_kind, unfit}
 use Rattle.folder_core.specs.Books.{Changed, Takes}
 use Rattle.folder_core.specs.Sound.{IsSound as IsSoundMachine}
-use Rattle.script_engine.specs.Pulls.{HasForm}
+use Rattle.script_engine.specs.Pulls.{HasForm, IsFormOfGiven}
+use Rattle.script_engine.specs.Scene.{Contents, with_contents}
 use Rattle.script_engine.specs.Sound.{IsSoundWorld}
-use Rattle.script_engine.specs.Standing.{MachineStands}
+use Rattle.script_engine.specs.Standing.{HoldsContents, MachineStands}
 use Rattle.script_engine.specs.Widening.{Exceeds, Fits}
 use Rattle.script_engine.proofs.Advancing.{Goes, beside_same}
 use Rattle.script_engine.proofs.Journals.{recorded_kept}
@@ -56,12 +60,13 @@ use Rattle.script_engine.proofs.Vectors.{vector_plus}
 use Rattle.script_engine.proofs.Widths.{covered_is, exceeds_by, fits_by}
 
 -- the update is adopted
-pub record Adopts (w : World) (d : ℕ) (u : Update) (m : Machine) (reply : Reply) (new : Machine) : Type 0 where
+pub record Adopts (w : World) (d : ℕ) (u : Update) (form : Option (List ℕ)) (m : Machine) (reply : Reply) (new : Machine) : Type 0 where
   pub fits : Fits (plus (w.at d).known u.gvsn)
   pub after : World
   pub step : Step w d (Adopt u) after
   pub reply_is : reply ≡ Adopted
   pub goes : Goes w d m new after
+  pub holds : (contents : Contents) (given : Option (List ℕ)) → IsFormOfGiven given form → HoldsContents (contents d) m → HoldsContents (with_contents contents d u.uid given d) new
   pub volume : new.volume ≡ m.volume
 
 -- its version would make too many intervals
@@ -195,44 +200,73 @@ abbrev IsStagedOf : Update → Option (List ℕ) → Type 0
 IsStagedOf u given = (if is_file u then Some u.hash else None) ≡ option_map form_sum given
 
 -- what is taken with the update, which nothing refuses
-record TakesForm (u : Update) (m : Machine) (reply : Reply) (new : Machine) : Type 0 where
+record TakesForm (u : Update) (form : Option (List ℕ)) (m : Machine) (reply : Reply) (new : Machine) : Type 0 where
   pub given : Option (List ℕ)
+  pub came : (bytes : List ℕ) → given ≡ Some bytes → form ≡ Some bytes
   pub staged : IsStagedOf u given
   pub takes : Takes (cmd.Adopt u given) Adopted m reply new
 
-takes_form : (u : Update) (form : Option (List ℕ)) (m : Machine) (reply : Reply) (new : Machine) → HasForm u form → AnswersForm u form m reply new → TakesForm u m reply new
+takes_form : (u : Update) (form : Option (List ℕ)) (m : Machine) (reply : Reply) (new : Machine) → HasForm u form → AnswersForm u form m reply new → TakesForm u form m reply new
 takes_form u form m reply new has (outcome, stages, h) = by (is_file u) refl stages
   where
     result : Result (Option (List ℕ)) Refusal → Type 0
     result r = MatchResult r (λ given. Takes (cmd.Adopt u given) Adopted m reply new) (λ why. Refuses why m reply new)
 
     taken : (form' contents : List ℕ) → form ≡ Some form' → form_sum form' ≡ u.hash → IsLocalForm form' contents → is_file u ≡ true
-        → ChecksForm form' u.hash (Some form') outcome → TakesForm u m reply new
-    taken bytes contents is sum local file (inl (at, bad, refused)) = absurd (local_forms_have_no_bad_place bytes contents at local bad)
-    taken bytes contents is sum local file (inr (more, too, inl (differs, refused))) = absurd (differs sum)
-    taken bytes contents is sum local file (inr (more, too, inr (same, done))) = record {
+        → ChecksForm form' u.hash (Some form') outcome → TakesForm u form m reply new
+    taken bytes contents is sum of_local file (inl (at, bad, refused)) = absurd (local_forms_have_no_bad_place bytes contents at of_local bad)
+    taken bytes contents is sum of_local file (inr (more, too, inl (differs, refused))) = absurd (differs sum)
+    taken bytes contents is sum of_local file (inr (more, too, inr (same, done))) = record {
       given = Some bytes;
+      came = λ other same. is ∙ same;
       staged = ap (λ b. if b then Some u.hash else None) file ∙ ap (λ s. Some s) (sym sum);
       takes = subst result done h;
     }
 
-    by : (b : Bool) → is_file u ≡ b → MatchBool b (ChecksForm (unwrap_or form []) u.hash (Some (unwrap_or form [])) outcome) (outcome ≡ Ok None) → TakesForm u m reply new
+    by : (b : Bool) → is_file u ≡ b → MatchBool b (ChecksForm (unwrap_or form []) u.hash (Some (unwrap_or form [])) outcome) (outcome ≡ Ok None) → TakesForm u form m reply new
     by true file checks =
-        let (bytes, contents, is, sum, local) = has file in
-        taken bytes contents is sum local file (subst (λ f. ChecksForm (unwrap_or f []) u.hash (Some (unwrap_or f [])) outcome) is checks)
+        let (bytes, contents, is, sum, of_local) = has file in
+        taken bytes contents is sum of_local file (subst (λ f. ChecksForm (unwrap_or f []) u.hash (Some (unwrap_or f [])) outcome) is checks)
     by false other done = record {
       given = None;
+      came = λ bytes e. absurd (cc);
       staged = ap (λ b. if b then Some u.hash else None) other;
       takes = subst result done h;
     }
 
 -- ---- the machine
 
+-- the book of a member that adopted an update
+book_on : (w : World) (d : ℕ) (u : Update) (given : Option (List ℕ)) (m new : Machine) → IsSoundWorld w → (s : MachineStands w.all (w.at d) d m) → IsOurs w u → IsWanted w d u
+    → Changed (cmd.Adopt u given) m new → StandsFor w.all (plus (w.at d).known u.gvsn) (w.at d).consumed (w.at d).phase (with_uid s.forms u.uid given) new.book
+book_on w d u given m new sound s ours wanted changed =
+    let x = w.at d in
+    adopts_on w.all x.known x.consumed x.phase s.forms m.book new.book u given s.book sound.invariant.versions.one_each ours.here (record { set = ours.set ∙ sym s.set; better = wanted }) changed.book
+
+-- the form that came is that of what was given, and the others are as they were
+adopted_holds : (w : World) (d : ℕ) (u : Update) (form staged : Option (List ℕ)) (m new : Machine) → IsSoundWorld w → MachineStands w.all (w.at d) d m → IsOurs w u → IsWanted w d u → ((bytes : List ℕ) → staged ≡ Some bytes → form ≡ Some bytes)
+    → Changed (cmd.Adopt u staged) m new → (contents : Contents) (given : Option (List ℕ)) → IsFormOfGiven given form → HoldsContents (contents d) m → HoldsContents (with_contents contents d u.uid given d) new
+adopted_holds w d u form staged m new sound s ours wanted came changed contents given is h uid bytes e =
+    by given is (sym ((book_on w d u staged m new sound s ours wanted changed).staged uid) ∙ e)
+  where
+    others : (b : Bool) (x : List ℕ) → form ≡ Some (spelling local x) → cond b staged (s.forms uid) ≡ Some bytes → bytes ≡ spelling local (cond b x (contents d uid))
+    others true x is e = let same = came bytes e in cc
+    others false x is e = h uid bytes (s.book.staged uid ∙ e)
+
+    none : (b : Bool) → form ≡ None → cond b staged (s.forms uid) ≡ Some bytes → bytes ≡ spelling local (contents d uid)
+    none true is e = absurd (none_some bytes (sym is ∙ came bytes e))
+    none false is e = h uid bytes (s.book.staged uid ∙ e)
+
+    by : (given : Option (List ℕ)) → IsFormOfGiven given form → cond (same_uid uid u.uid) staged (s.forms uid) ≡ Some bytes → bytes ≡ spelling local (with_contents contents d u.uid given d uid)
+    by None is e = none (same_uid uid u.uid) is e
+    by (Some x) is e =
+        others (same_uid uid u.uid) x is e ∙ ap (spelling local) (sym (ap (λ f. f uid) (at_same contents d (with_uid (contents d) u.uid x))))
+
 adopted_stands : (w : World) (d : ℕ) (u : Update) (given : Option (List ℕ)) (m new : Machine) → IsSoundWorld w → MachineStands w.all (w.at d) d m → IsSoundMachine new → IsOurs w u → IsWanted w d u → IsStagedOf u given
     → Changed (cmd.Adopt u given) m new → MachineStands w.all (adopted_by u (w.at d)) d new
 adopted_stands w d u given m new sound s keeps ours wanted staged changed =
     let x = w.at d in
-    let on = adopts_on w.all x.known x.consumed x.phase s.forms m.book new.book u given s.book sound.invariant.versions.one_each ours.here (record { set = ours.set ∙ sym s.set; better = wanted }) changed.book in
+    let on = book_on w d u given m new sound s ours wanted changed in
     record {
       sound = keeps;
       own = changed.book.own ∙ s.own;
@@ -247,9 +281,9 @@ adopted_stands w d u given m new sound s keeps ours wanted staged changed =
 widths : (w : World) (d : ℕ) (m : Machine) (u : Update) → MachineStands w.all (w.at d) d m → plus (covers m.book.vector) u.gvsn ≡ plus (w.at d).known u.gvsn
 widths w d m u s = λ i. plus (covered_is (w.at d).known m.book.vector s.book.vector i) u.gvsn
 
-takes : (w : World) (d : ℕ) (u : Update) (given : Option (List ℕ)) (m : Machine) (reply : Reply) (new : Machine) → IsSoundWorld w → MachineStands w.all (w.at d) d m → IsSoundMachine new → IsOurs w u → WasSent w u → IsWanted w d u
-    → IsStagedOf u given → Takes (cmd.Adopt u given) Adopted m reply new → Adopts w d u m reply new ⊎ IsTooWide w d u m reply new
-takes w d u given m reply new sound s keeps ours sent wanted staged (inl (said, changed)) =
+takes : (w : World) (d : ℕ) (u : Update) (form given : Option (List ℕ)) (m : Machine) (reply : Reply) (new : Machine) → IsSoundWorld w → MachineStands w.all (w.at d) d m → IsSoundMachine new → IsOurs w u → WasSent w u → IsWanted w d u
+    → ((bytes : List ℕ) → given ≡ Some bytes → form ≡ Some bytes) → IsStagedOf u given → Takes (cmd.Adopt u given) Adopted m reply new → Adopts w d u form m reply new ⊎ IsTooWide w d u m reply new
+takes w d u form given m reply new sound s keeps ours sent wanted came staged (inl (said, changed)) =
     let after = with_member w d (adopted_by u (w.at d)) in
     let passes = passes_adopt w d u after sound (sent, wanted, refl) in
     inl (record {
@@ -264,9 +298,10 @@ takes w d u given m reply new sound s keeps ours sent wanted staged (inl (said, 
         ours = λ h. h;
         counted = let same = changed.book.consumed in let kept = recorded_kept m new changed.volume (omega (arith, same)) in omega (arith, kept);
       };
+      holds = λ contents bytes is h. adopted_holds w d u form given m new sound s ours wanted came changed contents bytes is h;
       volume = changed.volume;
     })
-takes w d u given m reply new sound s keeps ours sent wanted staged (inr (count, (full, (said, same)))) = inr (record {
+takes w d u form given m reply new sound s keeps ours sent wanted came staged (inr (count, (full, (said, same)))) = inr (record {
   count = count;
   exceeds = exceeds_by _ (plus (w.at d).known u.gvsn) count (widths w d m u s) (vector_plus (w.at d).known u.gvsn (sound.vectors d)) full;
   reply_is = said;
@@ -275,8 +310,8 @@ takes w d u given m reply new sound s keeps ours sent wanted staged (inr (count,
 
 -- an update that was sent and is wanted is adopted, a present file with its form, or its version would make too many intervals
 pub adopts_at : (w : World) (d : ℕ) (u : Update) (form : Option (List ℕ)) → HasForm u form → (m : Machine) (reply : Reply) (new : Machine) → IsSoundWorld w → MachineStands w.all (w.at d) d m → IsSoundMachine new → IsOurs w u → WasSent w u → IsWanted w d u
-    → AnswersAdopt u form m reply new → Adopts w d u m reply new ⊎ IsTooWide w d u m reply new
+    → AnswersAdopt u form m reply new → Adopts w d u form m reply new ⊎ IsTooWide w d u m reply new
 adopts_at w d u form has m reply new sound s keeps ours sent wanted answers =
     let t = takes_form u form m reply new has
     (subst (λ r. MatchOption r (AnswersForm u form m reply new) (λ why. Refuses why m reply new)) (no_refusal w d m u sound s ours sent wanted) answers) in
-    takes w d u t.given m reply new sound s keeps ours sent wanted t.staged t.takes
+    takes w d u form t.given m reply new sound s keeps ours sent wanted t.came t.staged t.takes

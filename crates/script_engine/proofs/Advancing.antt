@@ -1,5 +1,5 @@
 -- What an event at one member makes of its machine and of the world.
-use Rattle.std.proofs.Common.{◌≡◌, ◌≢◌, ◌<◌, ◌≤◌, ◌+◌, ◌^◌, ℕ, false, List, ◌++◌, length, set, sym, ◌∙◌, subst, arith, Some}
+use Rattle.std.proofs.Common.{◌≡◌, ◌≢◌, ◌<◌, ◌≤◌, ◌+◌, ◌^◌, ℕ, false, List, ◌++◌, length, set, refl, sym, ◌∙◌, subst, arith, Some}
 use Rattle.std.specs.Prelude.{slice_get}
 use Rattle.std.proofs.lemmas.List.{length-set}
 use Rattle.std.proofs.lemmas.Option.{slice_get_within}
@@ -9,9 +9,11 @@ use Rattle.win_order.specs.declared.update.Update.{Update}
 use Rattle.record_db.proofs.Standing.{stays_standing}
 use Rattle.world_model.specs.World.{Member, World}
 use Rattle.folder_core.specs.Machine.{Machine}
-use Rattle.script_engine.specs.Scene.{Scene, in_world}
+use Rattle.script_engine.specs.Scene.{Contents, Scene}
 use Rattle.script_engine.specs.Sound.{IsSoundScene}
-use Rattle.script_engine.specs.Standing.{AreOurs, MachineStands, MachinesStand, recorded_in}
+use Rattle.script_engine.specs.Standing.{AreOurs, HoldsContents, MachineStands, MachinesStand, recorded_in}
+use Rattle.script_engine.proofs.Gives.{held_staged}
+use Rattle.script_engine.proofs.Leading.{Leads, leads_sound}
 use Rattle.script_engine.proofs.Pairs.{get_set_cases, sum_set}
 use Rattle.script_engine.proofs.Passing.{Passes}
 
@@ -46,23 +48,27 @@ database_apart : (k j : ℕ) → j ≢ k → database_of (j + 1) ≢ database_of
 database_apart k j n e = n (omega (arith, e))
 
 -- a scene stays sound where a named member went on
-pub scene_on : (s : Scene) (k : ℕ) (new : World) → IsSoundScene s → k < length s.names → Passes (database_of (k + 1)) s.world new → IsSoundScene (in_world s new)
-scene_on s k new h within p = record {
-  world = p.sound;
-  unnamed = λ j nobody. let (kind, is) = h.unnamed j nobody in (kind, sym (p.others j (nobody k within)) ∙ is);
-}
+pub scene_on : (s new : Scene) (k : ℕ) → IsSoundScene s → k < length s.names → Leads (database_of (k + 1)) s new → IsSoundScene new
+scene_on s new k h within l = leads_sound (database_of (k + 1)) s new h l (λ j nobody. nobody k within)
 
--- machines that stand for a scene go on to, each event at one of them
-pub machines_on : (machines : List Machine) (s : Scene) (k : ℕ) (m new : Machine) (after : World) → MachinesStand machines s → slice_get machines k ≡ Some m
-    → Goes s.world (database_of (k + 1)) m new after → new.volume.next_usn < 2 ^ 64 → MachinesStand (set machines k new) (in_world s after)
-machines_on machines s k m new after h at g usns = record {
+-- machines that stand for a scene go on to, each event at one of them, with the contents that its member has staged then
+pub machines_on : (machines : List Machine) (s : Scene) (k : ℕ) (m new : Machine) (after : World) (contents : Contents) → MachinesStand machines s → slice_get machines k ≡ Some m
+    → Goes s.world (database_of (k + 1)) m new after → ((j : ℕ) → j ≢ database_of (k + 1) → contents j ≡ s.contents j) → HoldsContents (contents (database_of (k + 1))) new → new.volume.next_usn < 2 ^ 64
+    → MachinesStand (set machines k new) (record s { world = after; contents = contents })
+machines_on machines s k m new after contents h at g beside holds usns = record {
   many = length-set machines k new ∙ h.many;
   each = λ j x found. get_set_cases (λ z. MachineStands after.all (after.at (database_of (j + 1))) (database_of (j + 1)) z) machines k j m new x at found (λ e. subst (λ i. MachineStands after.all (after.at (database_of (i + 1))) (database_of (i + 1)) new) (sym e) g.stands) (λ n e. g.beside (database_of (j + 1)) x (database_apart k j n) (h.each j x e));
+  contents = λ j x found. get_set_cases (λ z. HoldsContents (contents (database_of (j + 1))) z) machines k j m new x at found (λ e. subst (λ i. HoldsContents (contents (database_of (i + 1))) new) (sym e) holds) (λ n e. subst (λ c. HoldsContents c x) (sym (beside (database_of (j + 1)) (database_apart k j n))) (h.contents j x e));
   ours = g.ours h.ours;
   usns = λ j x found. get_set_cases (λ (z : Machine). z.volume.next_usn < 2 ^ 64) machines k j m new x at found (λ e. usns) (λ n e. h.usns j x e);
   counted = let sums = sum_set recorded_in machines k m new at in
       let more = g.counted in
       let had = h.counted in
       omega (arith, sums, more, had);
-  scene = scene_on s k after h.scene (let within = slice_get_within machines k m at in let many = h.many in omega (arith, within, many)) g.passes;
+  scene = scene_on s (record s { world = after; contents = contents }) k h.scene (let within = slice_get_within machines k m at in let many = h.many in omega (arith, within, many)) (record {
+    names = refl;
+    passes = g.passes;
+    staged = λ old. held_staged after.all (after.at (database_of (k + 1))) (database_of (k + 1)) (contents (database_of (k + 1))) new g.stands holds;
+    beside = beside;
+  });
 }

@@ -64,6 +64,7 @@ pub record Consumes (w : World) (d moment : ℕ) (m : Machine) (reply : Reply) (
   pub fits : Fits (widened w d)
   pub reply_is : reply ≡ reply_of d (w.at d).consumed made
   pub goes : Goes w d m new (consumes w d made)
+  pub keeps : (contents : Uid → List ℕ) → HoldsContents contents m → HoldsContents contents new
   pub volume : new.volume ≡ m.volume
   pub next : new.book.consumed ≡ m.book.consumed + 1
 
@@ -159,14 +160,37 @@ unused w d own sound e u here is =
     let bad : IsConsumed w (record { db = d; version = (w.at d).consumed }) = subst (IsConsumed w) (is ∙ (λ i. record { db = e i; version = (w.at d).consumed })) c in
     let low = bad.1 in omega (arith, low)
 
+-- the book of a member that consumed a record
+book_on : (w : World) (d moment : ℕ) (m new : Machine) (made : Option Update) → IsSoundWorld w → AreOurs w.all → (s : MachineStands w.all (w.at d) d m) → Records w d moment made
+    → Changed (RecordLocal m.book.consumed made) m new
+    → StandsFor (w.all ++ option_to_list made) (plus (w.at d).known (own_version m.book (w.at d).consumed)) ((w.at d).consumed + 1) (w.at d).phase (dropped_by made s.forms) new.book
+book_on w d moment m new made sound ours s records changed =
+    let x = w.at d in
+    let fit = recorded_fit w d moment m made sound ours s records in
+    let changes : Changes (RecordLocal x.consumed made) m.book new.book = subst (λ n. Changes (RecordLocal n made) m.book new.book) s.book.consumed changed.book in
+    records_on w.all x.known x.consumed x.phase s.forms m.book new.book made s.book (unused w d m.book.own sound s.own) fit changes
+
+-- what is staged then was staged
+dropped_less : (made : Option Update) (forms : Uid → Option (List ℕ)) (uid : Uid) (form : List ℕ) → dropped_by made forms uid ≡ Some form → forms uid ≡ Some form
+dropped_less None forms uid form e = e
+dropped_less (Some u) forms uid form e = by (same_uid uid u.uid) e
+  where
+    by : (b : Bool) → cond b None (forms uid) ≡ Some form → forms uid ≡ Some form
+    by true e = absurd (cc)
+    by false e = e
+
+consumed_keeps : (w : World) (d moment : ℕ) (m new : Machine) (made : Option Update) → IsSoundWorld w → AreOurs w.all → MachineStands w.all (w.at d) d m → Records w d moment made
+    → Changed (RecordLocal m.book.consumed made) m new → (contents : Uid → List ℕ) → HoldsContents contents m → HoldsContents contents new
+consumed_keeps w d moment m new made sound ours s records changed contents h uid form e =
+    let on = book_on w d moment m new made sound ours s records changed in
+    h uid form (s.book.staged uid ∙ dropped_less made s.forms uid form (sym (on.staged uid) ∙ e))
+
 -- the machine of a member that consumed a record
 consumed_stands : (w : World) (d moment : ℕ) (m new : Machine) (made : Option Update) → IsSoundWorld w → AreOurs w.all → MachineStands w.all (w.at d) d m → IsSoundMachine new → Records w d moment made
     → Changed (RecordLocal m.book.consumed made) m new → MachineStands (w.all ++ option_to_list made) (consumed_by d made (w.at d)) d new
 consumed_stands w d moment m new made sound ours s keeps records changed =
     let x = w.at d in
-    let fit = recorded_fit w d moment m made sound ours s records in
-    let changes : Changes (RecordLocal x.consumed made) m.book new.book = subst (λ n. Changes (RecordLocal n made) m.book new.book) s.book.consumed changed.book in
-    let on = records_on w.all x.known x.consumed x.phase s.forms m.book new.book made s.book (unused w d m.book.own sound s.own) fit changes in
+    let on = book_on w d moment m new made sound ours s records changed in
     record {
       sound = keeps;
       own = changed.book.own ∙ s.own;
@@ -221,6 +245,7 @@ book_takes w d moment m reply new made (early, few) sound ours s keeps records (
   fits = fits_by _ (widened w d) new.book.vector (widths w d m s) changed.book.vector changed.within;
   reply_is = said;
   goes = goes_by w d moment m new made early sound ours s keeps records changed;
+  keeps = consumed_keeps w d moment m new made sound ours s records changed;
   volume = changed.volume;
   next = changed.book.consumed;
 })

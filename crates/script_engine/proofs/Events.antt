@@ -1,8 +1,9 @@
 -- What the calls of an engine do to the scene that it stands for, one event each.
-use Rattle.std.proofs.Common.{◌≡◌, ◌<◌, ◌≤◌, ◌+◌, ◌^◌, ◌⊎◌, ℕ, List, [], length, set, refl, sym, ap, ◌∙◌, subst, arith, inl, inr, Option, Some, None, Result, Ok, Err}
+use Rattle.std.proofs.Common.{◌≡◌, ◌≢◌, ◌<◌, ◌≤◌, ◌+◌, ◌^◌, ◌⊎◌, ℕ, List, [], length, set, refl, sym, ap, ◌∙◌, subst, arith, inl, inr, Option, Some, None, Result, Ok, Err}
 use Rattle.std.specs.Prelude.{IfOk, map, slice_get, sum_by}
 use Rattle.std.proofs.lemmas.List.Sums.{sum_by-le-sum_by}
 use Rattle.frs_base.specs.Identifiers.{database_of}
+use Rattle.frs_base.specs.declared.version.Uid.{Uid}
 use Rattle.win_order.specs.declared.update.Update.{Update}
 use Rattle.vol_state.specs.declared.operation.LocalOp.{LocalOp}
 use Rattle.vol_state.specs.declared.operation.Refused.{Refused}
@@ -21,10 +22,10 @@ use Rattle.script_engine.specs.declared.engine.Engine.{Engine}
 use Rattle.script_engine.specs.declared.refusal.Refusal.{Refusal}
 use Rattle.script_engine.specs.declared.refusal.Refusal.TheVariants.{VectorFull}
 use Rattle.script_engine.specs.Named.{AreNamed}
-use Rattle.script_engine.specs.Scene.{Scene, fresh_scene, in_world}
+use Rattle.script_engine.specs.Scene.{Contents, Scene, fresh_scene, in_world}
 use Rattle.script_engine.specs.Consuming.{widened}
 use Rattle.script_engine.specs.Widening.{Fits}
-use Rattle.script_engine.specs.Standing.{HaveRoom, MachinesStand, local_in, recorded_in, unconsumed_in}
+use Rattle.script_engine.specs.Standing.{HaveRoom, HoldsContents, MachinesStand, local_in, recorded_in, unconsumed_in}
 use Rattle.script_engine.specs.Engines.{Answered, ConsumedNext, Operated, Stands, count_of, local_by_all, machines_of, unconsumed_by_all}
 use Rattle.script_engine.specs.Replies.{consumed_of, usn_of}
 use Rattle.script_engine.proofs.Journals.{local_same, recorded_less}
@@ -36,14 +37,25 @@ use Rattle.script_engine.proofs.Consumption.{AreBounded, Consumes, Ends, IsTooFu
 
 -- ---- one machine more or less
 
--- an engine stands for what its member went on to
-pub stands_on : (old new : Engine) (s : Scene) (at : ℕ) (m next : Machine) (after : World) → Stands old s → new.names ≡ old.names → slice_get (machines_of old) at ≡ Some m → machines_of new ≡ set (machines_of old) at next
-    → Goes s.world (database_of (at + 1)) m next after → next.volume.next_usn < 2 ^ 64 → Stands new (in_world s after)
-stands_on old new s at m next after h names found machines g usns = record {
+-- an engine stands for what its member went on to, with the contents that the member has staged then
+pub stands_with : (old new : Engine) (s : Scene) (at : ℕ) (m next : Machine) (after : World) (contents : Contents) → Stands old s → new.names ≡ old.names → slice_get (machines_of old) at ≡ Some m → machines_of new ≡ set (machines_of old) at next
+    → Goes s.world (database_of (at + 1)) m next after → ((j : ℕ) → j ≢ database_of (at + 1) → contents j ≡ s.contents j) → HoldsContents (contents (database_of (at + 1))) next → next.volume.next_usn < 2 ^ 64
+    → Stands new (record s { world = after; contents = contents })
+stands_with old new s at m next after contents h names found machines g beside holds usns = record {
   names = ap (λ x. x.items) names ∙ h.names;
   formed = subst (λ x. AreNamed x.items) (sym names) h.formed;
-  machines = subst (λ ms. MachinesStand ms (in_world s after)) (sym machines) (machines_on (machines_of old) s at m next after h.machines found g usns);
+  machines = subst (λ ms. MachinesStand ms (record s { world = after; contents = contents })) (sym machines) (machines_on (machines_of old) s at m next after contents h.machines found g beside holds usns);
 }
+
+-- each form that is staged was
+abbrev pub Keeps : Machine → Machine → Type 0
+Keeps m next = (contents : Uid → List ℕ) → HoldsContents contents m → HoldsContents contents next
+
+-- where nothing is staged that wasn't, it has the contents that it had
+pub stands_on : (old new : Engine) (s : Scene) (at : ℕ) (m next : Machine) (after : World) → Stands old s → new.names ≡ old.names → slice_get (machines_of old) at ≡ Some m → machines_of new ≡ set (machines_of old) at next
+    → Goes s.world (database_of (at + 1)) m next after → Keeps m next → next.volume.next_usn < 2 ^ 64 → Stands new (in_world s after)
+stands_on old new s at m next after h names found machines g keeps usns =
+    stands_with old new s at m next after s.contents h names found machines g (λ j n. refl) (keeps (s.contents (database_of (at + 1))) (h.machines.contents at m found)) usns
 
 -- where the machine stays, it stands for the same
 pub stands_still : (old new : Engine) (s : Scene) (at : ℕ) (m next : Machine) → Stands old s → new.names ≡ old.names → slice_get (machines_of old) at ≡ Some m → machines_of new ≡ set (machines_of old) at next
@@ -91,7 +103,7 @@ operated_on at operation reply old new s h names a =
       reads = ap usn_of done.reply_is;
       after = done.after;
       operated = (done.cmd, done.resolves, done.step, refl);
-      stands = stands_on old new s at a.before a.after done.after h names a.found a.machines done.goes a.usns;
+      stands = stands_on old new s at a.before a.after done.after h names a.found a.machines done.goes done.keeps a.usns;
       made = let sums = local_after old new at a.before a.after a.found a.machines in let one = done.local in omega (arith, sums, one);
     }
     by (inr stays) = record {
@@ -137,22 +149,22 @@ consumed_on at moment reply old new s early room h names a =
         omega (arith, counts, usns, next, most)
 
     some : (made : Option Update) → Records s.world (database_of (at + 1)) moment made → Fits (widened s.world (database_of (at + 1))) → reply ≡ reply_of (database_of (at + 1)) (s.world.at (database_of (at + 1))).consumed made
-        → Goes s.world (database_of (at + 1)) a.before a.after (consumes s.world (database_of (at + 1)) made) → a.after.volume ≡ a.before.volume → a.after.book.consumed ≡ a.before.book.consumed + 1 → ConsumesAt at moment reply old new s
-    some None records fits is g same next = record {
+        → Goes s.world (database_of (at + 1)) a.before a.after (consumes s.world (database_of (at + 1)) made) → Keeps a.before a.after → a.after.volume ≡ a.before.volume → a.after.book.consumed ≡ a.before.book.consumed + 1 → ConsumesAt at moment reply old new s
+    some None records fits is g keeps same next = record {
       outcome = Ok (Some (consumed.Skipped (s.world.at (database_of (at + 1))).consumed));
       reads = ap consumed_of is;
       after = consumes s.world (database_of (at + 1)) None;
       consumed = (refl, fits, records, refl);
-      stands = stands_on old new s at a.before a.after _ h names a.found a.machines g a.usns;
+      stands = stands_on old new s at a.before a.after _ h names a.found a.machines g keeps a.usns;
       made = same_local same;
       fewer = one_fewer same next;
     }
-    some (Some u) records fits is g same next = record {
+    some (Some u) records fits is g keeps same next = record {
       outcome = Ok (Some (consumed.Made (s.world.at (database_of (at + 1))).consumed));
       reads = ap consumed_of is;
       after = consumes s.world (database_of (at + 1)) (Some u);
       consumed = (refl, fits, u, records, refl);
-      stands = stands_on old new s at a.before a.after _ h names a.found a.machines g a.usns;
+      stands = stands_on old new s at a.before a.after _ h names a.found a.machines g keeps a.usns;
       made = same_local same;
       fewer = one_fewer same next;
     }
@@ -168,7 +180,7 @@ consumed_on at moment reply old new s early room h names a =
       made = same_local (ap (λ (x : Machine). x.volume) ends.same);
       fewer = no_fewer ends.same;
     }
-    by (inr (inl c)) = some c.made c.records c.fits c.reply_is c.goes c.volume c.next
+    by (inr (inl c)) = some c.made c.records c.fits c.reply_is c.goes c.keeps c.volume c.next
     by (inr (inr full)) = record {
       outcome = Err (VectorFull full.count);
       reads = ap consumed_of full.reply_is;
@@ -210,6 +222,7 @@ fresh_stands e names folders = record {
     many = refl;
     each = λ k m at. absurd (cc);
     ours = λ u here. absurd here;
+    contents = λ k m at. absurd (cc);
     usns = λ k m at. absurd (cc);
     counted = omega arith;
     scene = fresh_scene_sound;

@@ -2,6 +2,8 @@
 use Rattle.std.proofs.Common.{◌≡◌, ◌<◌, ◌⊎◌, ℕ, Bool, true, false, not, cond, List, [], ◌∷◌, refl, sym, ap, ◌∙◌, subst, arith, inl, inr, MatchOption, Some, None}
 use Rattle.std.specs.Prelude.{find}
 use Rattle.frs_base.specs.Options.{In, some_is}
+use Rattle.frs_base.specs.declared.kind.Phase.TheVariants.{Normal}
+use Rattle.frs_base.specs.declared.version.Uid.{Uid}
 use Rattle.version_vector.specs.Versions.{covers}
 use Rattle.version_vector.specs.declared.interval.Interval.{Interval}
 use Rattle.win_order.specs.Order.{key_lt, key_of}
@@ -9,6 +11,7 @@ use Rattle.win_order.specs.declared.update.Update.{Update}
 use Rattle.vol_state.specs.Maps.{Stands}
 use Rattle.record_db.specs.declared.command.BookCmd.TheVariants as cmd
 use Rattle.record_db.specs.Records.{IsHeldOrBeaten, Versions, both}
+use Rattle.record_db.specs.Standing.{StandsFor}
 use Rattle.record_db.specs.Steps.{own_version}
 use Rattle.record_db.proofs.Lists.{find_at}
 use Rattle.record_db.proofs.Sets.{one_set}
@@ -26,7 +29,7 @@ use Rattle.folder_core.specs.Finish.{AnswersFinish, HasAhead, first_unheld, is_h
 use Rattle.folder_core.specs.Sound.{IsSound as IsSoundMachine}
 use Rattle.script_engine.specs.Pulls.{MayFinish}
 use Rattle.script_engine.specs.Sound.{IsSoundWorld}
-use Rattle.script_engine.specs.Standing.{MachineStands}
+use Rattle.script_engine.specs.Standing.{HoldsContents, MachineStands}
 use Rattle.script_engine.specs.Widening.{Exceeds, Fits, IsVectorOf}
 use Rattle.script_engine.proofs.Advancing.{Goes, beside_same}
 use Rattle.script_engine.proofs.Journals.{recorded_kept}
@@ -41,6 +44,7 @@ pub record Finishes (w : World) (d : ℕ) (s : Versions) (m : Machine) (reply : 
   pub step : Step w d (Finish s) after
   pub reply_is : reply ≡ Finished
   pub goes : Goes w d m new after
+  pub keeps : (contents : Uid → List ℕ) → HoldsContents contents m → HoldsContents contents new
   pub volume : new.volume ≡ m.volume
 
 -- the vector would have too many intervals
@@ -75,6 +79,13 @@ all_seen w d m seen s held = find_none (λ u. not (is_held_or_beaten m.book.reco
 
 -- ---- the machine
 
+-- the book of a member that finished a round
+book_on : (w : World) (d : ℕ) (s : Versions) (sent : List Interval) (seen : List Update) (m new : Machine) → IsSoundWorld w → (stands : MachineStands w.all (w.at d) d m) → MayFinish w d s sent seen
+    → Changed (cmd.Finish sent) m new → StandsFor w.all (both (w.at d).known s) (w.at d).consumed Normal stands.forms new.book
+book_on w d s sent seen m new sound stands may changed =
+    let x = w.at d in
+    finishes_on w.all x.known s x.consumed x.phase stands.forms m.book new.book sent stands.book sound.invariant.versions.one_each may.vector.covering may.held changed.book
+
 finished_stands : (w : World) (d : ℕ) (s : Versions) (sent : List Interval) (seen : List Update) (m new : Machine) → IsSoundWorld w → MachineStands w.all (w.at d) d m → IsSoundMachine new → MayFinish w d s sent seen
     → Changed (cmd.Finish sent) m new → MachineStands w.all (finished_by s (w.at d)) d new
 finished_stands w d s sent seen m new sound stands keeps may changed =
@@ -86,7 +97,7 @@ finished_stands w d s sent seen m new sound stands keeps may changed =
       kind = changed.book.kind ∙ stands.kind;
       forms = stands.forms;
       staged = stands.staged;
-      book = finishes_on w.all x.known s x.consumed x.phase stands.forms m.book new.book sent stands.book sound.invariant.versions.one_each may.vector.covering may.held changed.book;
+      book = book_on w d s sent seen m new sound stands may changed;
       volume = subst (λ v. Stands v x.volume) (sym changed.volume) stands.volume;
     }
 
@@ -112,6 +123,7 @@ takes w d s sent seen m reply new sound stands keeps may (inl (said, changed)) =
         ours = λ h. h;
         counted = let same = changed.book.consumed in let kept = recorded_kept m new changed.volume (omega (arith, same)) in omega (arith, kept);
       };
+      keeps = λ contents h uid form e. h uid form (stands.book.staged uid ∙ (sym ((book_on w d s sent seen m new sound stands may changed).staged uid) ∙ e));
       volume = changed.volume;
     })
 takes w d s sent seen m reply new sound stands keeps may (inr (count, (full, (said, same)))) = inr (record {

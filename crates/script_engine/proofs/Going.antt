@@ -24,7 +24,11 @@ use Rattle.script_engine.specs.declared.refusal.Refusal.TheVariants.{NotYet, Vec
 use Rattle.script_engine.specs.declared.consumed.Consumed.{Consumed}
 use Rattle.script_engine.specs.declared.consumed.Consumed.TheVariants.{Made, Skipped}
 use Rattle.script_engine.specs.Consuming.{ConsumesAll, ConsumesNext, ConsumesOne, IsAtEnd, IsTooWide, widened}
-use Rattle.script_engine.specs.Pulling.{Ends, GoesOn, IsAsked, IsLastPending, Pulls, Takes, TakesFiles, TakesPages}
+use Rattle.script_engine.specs.Pulling.{Ends, GoesOn, IsAsked, IsLastPending, Pulls, Rest, Takes, TakesFiles, TakesPages, with_given}
+use Rattle.script_engine.specs.Scene.{Scene, in_world}
+use Rattle.script_engine.proofs.Gives.{GivenSum, IsKept, gives_some, gives_sum}
+use Rattle.script_engine.proofs.Leading.{leads_kept}
+use Rattle.script_engine.proofs.Pulled.{files_lead, given_leads, paged_leads}
 use Rattle.script_engine.specs.Widening.{Exceeds, Fits}
 use Rattle.script_engine.proofs.Once.{record_one}
 use Rattle.script_engine.proofs.Passing.{Passes, files_pass, pages_pass, passes_consume, passes_trans, passes_update, passes_vector, takes_passes}
@@ -116,12 +120,13 @@ pages_all w puller server (u ∷ us) listed taken why new (inr (inl (wanted, fil
 pages_all w puller server (u ∷ us) listed taken why new (inr (inr (inl (folder, mid, others, took, p, count)))) = pages_all mid puller server us listed others why new p ∙ takes_all w puller server u mid took
 pages_all w puller server (u ∷ us) listed taken why new (inr (inr (inr (folder, count, much, is, e, z, q)))) = ap (λ (z : World). z.all) is
 
-files_all : (w : World) (puller server : ℕ) (us : List Update) (taken : ℕ) (why : Option Refusal) (new : World) → TakesFiles w puller server us taken why new → new.all ≡ w.all
-files_all w puller server [] taken why new (z, q, is) = ap (λ (z : World). z.all) is
-files_all w puller server (u ∷ us) taken why new (inl (beaten, p)) = files_all w puller server us taken why new p
-files_all w puller server (u ∷ us) taken why new (inr (inl (wanted, usn, last, z, q, is))) = ap (λ (z : World). z.all) is
-files_all w puller server (u ∷ us) taken why new (inr (inr (inl (v, mid, others, wanted, same, file, took, p, count)))) = files_all mid puller server us others why new p ∙ takes_all w puller server v mid took
-files_all w puller server (u ∷ us) taken why new (inr (inr (inr (v, count, wanted, same, file, much, is, z, q)))) = ap (λ (z : World). z.all) is
+files_all : (s : Scene) (puller server : ℕ) (us : List Update) (taken : ℕ) (why : Option Refusal) (new : Scene) → TakesFiles s puller server us taken why new → new.world.all ≡ s.world.all
+files_all s puller server [] taken why new (z, q, is) = ap (λ (x : Scene). x.world.all) is
+files_all s puller server (u ∷ us) taken why new (inl (beaten, p)) = files_all s puller server us taken why new p
+files_all s puller server (u ∷ us) taken why new (inr (inl (wanted, usn, last, z, q, is))) = ap (λ (x : Scene). x.world.all) is
+files_all s puller server (u ∷ us) taken why new (inr (inr (inl (v, given, mid, others, wanted, same, file, gives, took, p, count)))) =
+    files_all (with_given s puller v given mid) puller server us others why new p ∙ takes_all s.world puller server v mid took
+files_all s puller server (u ∷ us) taken why new (inr (inr (inr (v, count, wanted, same, file, much, is, z, q)))) = ap (λ (x : Scene). x.world.all) is
 
 -- an update that is sent is adopted, where it is wanted and fits
 take : (w : World) (puller server : ℕ) (u : Update) → IsWanted w puller u → Fits (plus (w.at puller).known u.gvsn) → IsOfPage w server u ⊎ IsOfFile w server u → (new : World) × Takes w puller server u new
@@ -177,21 +182,25 @@ took_stays w puller server u new h apart took = record { all = takes_all w pulle
 -- ---- files
 
 -- each that is listed is held or beaten
-files_held : (w : World) (puller server : ℕ) (us : List Update) (taken : ℕ) (why : Option Refusal) (new : World) → IsSoundWorld w → server ≢ puller → ((u : Update) → In u us → IsRecordOf w server u)
-    → TakesFiles w puller server us taken why new → why ≡ None → (v : Update) → In v us → IsHeldOrBeaten (IsRecordOf new puller) v
-files_held w puller server [] taken why new h apart are p none v a = absurd a
-files_held w puller server (u ∷ us) taken why new h apart are (inl (beaten, p)) none v (inr a) = files_held w puller server us taken why new h apart (λ x k. are x (inr k)) p none v a
-files_held w puller server (u ∷ us) taken why new h apart are (inl (beaten, p)) none v (inl e) =
-    subst (IsHeldOrBeaten (IsRecordOf new puller)) (sym e) (held_stays w new puller u (files_pass w puller server us taken why new h p).grows (not_better w puller u beaten))
-files_held w puller server (u ∷ us) taken why new h apart are (inr (inl (wanted, usn, last, z, q, is))) none v a = absurd (none_some (NotYet usn) (sym none ∙ q))
-files_held w puller server (u ∷ us) taken why new h apart are (inr (inr (inl (x, mid, others, wanted, same, file, took, p, count)))) none v (inl e) =
-    let one : x ≡ v = record_one w server x v h.invariant.versions file.0 (subst (IsRecordOf w server) (sym e) (are u (inl refl))) (same ∙ ap (λ z. z.uid) (sym e)) in
-    let q = takes_passes w puller server x mid h took in
-    subst (IsHeldOrBeaten (IsRecordOf new puller)) one (held_stays mid new puller x (files_pass mid puller server us others why new q.sound p).grows (took_held w puller server x mid h took))
-files_held w puller server (u ∷ us) taken why new h apart are (inr (inr (inl (x, mid, others, wanted, same, file, took, p, count)))) none v (inr a) =
-    files_held mid puller server us others why new (takes_passes w puller server x mid h took).sound apart
-    (λ y k. stays_record server w mid (took_stays w puller server x mid h apart took) y (are y (inr k))) p none v a
-files_held w puller server (u ∷ us) taken why new h apart are (inr (inr (inr (x, count, wanted, same, file, much, is, z, q)))) none v a = absurd (none_some (VectorFull count) (sym none ∙ q))
+files_held : (s : Scene) (puller server : ℕ) (us : List Update) (taken : ℕ) (why : Option Refusal) (new : Scene) → IsKept s → server ≢ puller → ((u : Update) → In u us → IsRecordOf s.world server u)
+    → TakesFiles s puller server us taken why new → why ≡ None → (v : Update) → In v us → IsHeldOrBeaten (IsRecordOf new.world puller) v
+files_held s puller server [] taken why new h apart are p none v a = absurd a
+files_held s puller server (u ∷ us) taken why new h apart are (inl (beaten, p)) none v (inr a) = files_held s puller server us taken why new h apart (λ x k. are x (inr k)) p none v a
+files_held s puller server (u ∷ us) taken why new h apart are (inl (beaten, p)) none v (inl e) =
+    subst (IsHeldOrBeaten (IsRecordOf new.world puller)) (sym e) (held_stays s.world new.world puller u (files_lead s puller server us taken why new h p).passes.grows (not_better s.world puller u beaten))
+files_held s puller server (u ∷ us) taken why new h apart are (inr (inl (wanted, usn, last, z, q, is))) none v a = absurd (none_some (NotYet usn) (sym none ∙ q))
+files_held s puller server (u ∷ us) taken why new h apart are (inr (inr (inl (x, given, mid, others, wanted, same, file, gives, took, p, count)))) none v (inl e) =
+    let w = s.world in
+    let one : x ≡ v = record_one w server x v h.world.invariant.versions file.0 (subst (IsRecordOf w server) (sym e) (are u (inl refl))) (same ∙ ap (λ z. z.uid) (sym e)) in
+    let next = with_given s puller x given mid in
+    let l = given_leads s puller server x given mid h.world (gives_sum s server x given h file gives) took in
+    subst (IsHeldOrBeaten (IsRecordOf new.world puller)) one (held_stays mid new.world puller x (files_lead next puller server us others why new (leads_kept puller s next h l) p).passes.grows (took_held w puller server x mid h.world took))
+files_held s puller server (u ∷ us) taken why new h apart are (inr (inr (inl (x, given, mid, others, wanted, same, file, gives, took, p, count)))) none v (inr a) =
+    let next = with_given s puller x given mid in
+    let l = given_leads s puller server x given mid h.world (gives_sum s server x given h file gives) took in
+    files_held next puller server us others why new (leads_kept puller s next h l) apart
+    (λ y k. stays_record server s.world mid (took_stays s.world puller server x mid h.world apart took) y (are y (inr k))) p none v a
+files_held s puller server (u ∷ us) taken why new h apart are (inr (inr (inr (x, count, wanted, same, file, much, is, z, q)))) none v a = absurd (none_some (VectorFull count) (sym none ∙ q))
 
 -- ---- pages lead on
 
@@ -275,30 +284,31 @@ pending_below (suc n) w d uid none = elim (pends_or w d uid n) [
 pending_or : (w : World) (d : ℕ) (uid : Uid) → IsSoundWorld w → SomePending w d uid
 pending_or w d uid h = pending_below (w.at d).volume.next_usn w d uid (λ k from (r, c, e, l, s). let within = (h.invariant.members d).numbers.entries k r e in omega (arith, within, from))
 
-abbrev SomeFiles : World → ℕ → ℕ → List Update → Type 0
-SomeFiles w puller server us = (taken : ℕ) × (why : Option Refusal) × (new : World) × TakesFiles w puller server us taken why new
+abbrev SomeFiles : Scene → ℕ → ℕ → List Update → Type 0
+SomeFiles s puller server us = (taken : ℕ) × (why : Option Refusal) × (new : Scene) × TakesFiles s puller server us taken why new
 
 -- a file is taken, or doesn't fit
-file_takes : (w : World) (puller server : ℕ) (u : Update) (us : List Update) → IsSoundWorld w → IsWanted w puller u → IsOfFile w server u
-    → ((mid : World) → Takes w puller server u mid → SomeFiles mid puller server us) → SomeFiles w puller server (u ∷ us)
-file_takes w puller server u us h wanted file more = elim (fits_or_exceeds (plus (w.at puller).known u.gvsn) (vector_plus (w.at puller).known u.gvsn (h.vectors puller))) [
-  | inr (count, much) ↦ (0, Some (VectorFull count), w, inr (inr (inr (u, count, wanted, refl, file, (wanted, much), refl, refl, refl))))
+file_takes : (s : Scene) (puller server : ℕ) (u : Update) (us : List Update) → IsKept s → IsWanted s.world puller u → IsOfFile s.world server u
+    → ((given : Option (List ℕ)) (mid : World) → GivenSum u given → Takes s.world puller server u mid → SomeFiles (with_given s puller u given mid) puller server us) → SomeFiles s puller server (u ∷ us)
+file_takes s puller server u us h wanted file more = elim (fits_or_exceeds (plus (s.world.at puller).known u.gvsn) (vector_plus (s.world.at puller).known u.gvsn (h.world.vectors puller))) [
+  | inr (count, much) ↦ (0, Some (VectorFull count), s, inr (inr (inr (u, count, wanted, refl, file, (wanted, much), refl, refl, refl))))
   | inl fits ↦ (
-      let (mid, took) = take w puller server u wanted fits (inr file) in
-      let (others, why, new, p) = more mid took in
-      (others + 1, why, new, inr (inr (inl (u, mid, others, wanted, refl, file, took, p, refl))))
+      let (mid, took) = take s.world puller server u wanted fits (inr file) in
+      let (given, gives, sum) = gives_some s server u h file in
+      let (others, why, new, p) = more given mid sum took in
+      (others + 1, why, new, inr (inr (inl (u, given, mid, others, wanted, refl, file, gives, took, p, refl))))
       )
 ]
 
-files_some : (w : World) (puller server : ℕ) (us : List Update) → IsSoundWorld w → server ≢ puller → ((u : Update) → In u us → IsRecordOf w server u) → SomeFiles w puller server us
-files_some w puller server [] h apart are = (0, None, w, (refl, refl, refl))
-files_some w puller server (u ∷ us) h apart are = elim (wanted_or w puller u h.invariant.versions) [
-  | inr beaten ↦ (let (taken, why, new, p) = files_some w puller server us h apart (λ x a. are x (inr a)) in (taken, why, new, inl (beaten, p)))
-  | inl wanted ↦ elim (pending_or w server u.uid h) [
-    | inl (usn, last) ↦ (0, Some (NotYet usn), w, inr (inl (wanted, usn, last, refl, refl, refl)))
-    | inr quiet ↦ file_takes w puller server u us h wanted (are u (inl refl), quiet)
-        (λ mid took. files_some mid puller server us (takes_passes w puller server u mid h took).sound apart
-        (λ x a. stays_record server w mid (took_stays w puller server u mid h apart took) x (are x (inr a))))
+files_some : (s : Scene) (puller server : ℕ) (us : List Update) → IsKept s → server ≢ puller → ((u : Update) → In u us → IsRecordOf s.world server u) → SomeFiles s puller server us
+files_some s puller server [] h apart are = (0, None, s, (refl, refl, refl))
+files_some s puller server (u ∷ us) h apart are = elim (wanted_or s.world puller u h.world.invariant.versions) [
+  | inr beaten ↦ (let (taken, why, new, p) = files_some s puller server us h apart (λ x a. are x (inr a)) in (taken, why, new, inl (beaten, p)))
+  | inl wanted ↦ elim (pending_or s.world server u.uid h.world) [
+    | inl (usn, last) ↦ (0, Some (NotYet usn), s, inr (inl (wanted, usn, last, refl, refl, refl)))
+    | inr quiet ↦ file_takes s puller server u us h wanted (are u (inl refl), quiet)
+        (λ given mid sum took. files_some (with_given s puller u given mid) puller server us (leads_kept puller s (with_given s puller u given mid) h (given_leads s puller server u given mid h.world sum took)) apart
+        (λ x a. stays_record server s.world mid (took_stays s.world puller server u mid h.world apart took) x (are x (inr a))))
   ]
 ]
 
@@ -312,12 +322,15 @@ ends_some w puller s h vector sent held = elim (fits_or_exceeds (both (w.at pull
 
 -- ---- a pull
 
-abbrev SomePull : World → ℕ → ℕ → Type 0
-SomePull w puller server = (taken : ℕ) × (why : Option Refusal) × (new : World) × Pulls w puller server taken why new
+abbrev SomePull : Scene → ℕ → ℕ → Type 0
+SomePull s puller server = (taken : ℕ) × (why : Option Refusal) × (new : Scene) × Pulls s puller server taken why new
 
-pub pulls_some : (w : World) (puller server : ℕ) → IsSoundWorld w → server ≢ puller → SomePull w puller server
-pulls_some w puller server h apart = pull (pages_some sent puller server S page p.sound (λ u a. record { sent = inl refl; wins = (asked.each u a).0 }))
+pub pulls_some : (s : Scene) (puller server : ℕ) → IsKept s → server ≢ puller → SomePull s puller server
+pulls_some s puller server h apart = pull (pages_some sent puller server S page p.sound (λ u a. record { sent = inl refl; wins = (asked.each u a).0 }))
   where
+    w : World
+    w = s.world
+
     S : Versions
     S = (w.at server).known
 
@@ -325,40 +338,37 @@ pulls_some w puller server h apart = pull (pages_some sent puller server S page 
     sent = sends_vector w server
 
     p : Passes puller w sent
-    p = passes_vector w puller server sent h refl
+    p = passes_vector w puller server sent h.world refl
 
     page : List Update
-    page = (page_some w puller server h.invariant.versions).0
+    page = (page_some w puller server h.world.invariant.versions).0
 
     asked : IsAsked w puller server page
-    asked = (page_some w puller server h.invariant.versions).1
-
-    Ending : World → Option Refusal → World → Type 0
-    Ending filed why new = Ends filed puller S why new
-
-    After : List Update → ℕ → World → Option Refusal → World → Type 0
-    After listed fetched paged why new = (second : Option Refusal) × (last : World) × TakesFiles paged puller server listed fetched second last × GoesOn second last Ending why new
+    asked = (page_some w puller server h.world.invariant.versions).1
 
     -- what the vector covers is held or beaten at the end
-    all_held : (listed : List Update) (at_once fetched : ℕ) (mid last : World) → TakesPages sent puller server page listed at_once None mid → TakesFiles mid puller server listed fetched None last
-        → IsSoundWorld mid → Grows w last → Grows mid last → last.all ≡ w.all → ((u : Update) → In u listed → IsRecordOf mid server u) → IsAllHeld last puller S
-    all_held listed at_once fetched mid last pages files sound whole rest all are u r = by ((w.at puller).known u.gvsn) refl
+    all_held : (listed : List Update) (at_once fetched : ℕ) (mid : World) (last : Scene) → TakesPages sent puller server page listed at_once None mid → TakesFiles (in_world s mid) puller server listed fetched None last
+        → IsKept (in_world s mid) → Grows w last.world → Grows mid last.world → last.world.all ≡ w.all → ((u : Update) → In u listed → IsRecordOf mid server u) → IsAllHeld last.world puller S
+    all_held listed at_once fetched mid last pages files kept whole rest all are u r = by ((w.at puller).known u.gvsn) refl
       where
         wins : IsRecordOf w server u
         wins = subst (λ l. IsRecord l S u) all r
 
-        by : (b : Bool) → (w.at puller).known u.gvsn ≡ b → IsHeldOrBeaten (IsRecordOf last puller) u
-        by true e = held_stays w last puller u whole (covered_held w.all (w.at puller).known u (wins.among.0, e))
+        by : (b : Bool) → (w.at puller).known u.gvsn ≡ b → IsHeldOrBeaten (IsRecordOf last.world puller) u
+        by true e = held_stays w last.world puller u whole (covered_held w.all (w.at puller).known u (wins.among.0, e))
         by false e = elim (pages_held sent puller server page listed at_once None mid p.sound pages refl u (asked.whole u wins e)) [
-          | inl a ↦ files_held mid puller server listed fetched None last sound apart are files refl u a
-          | inr held ↦ held_stays mid last puller u rest held
+          | inl a ↦ files_held (in_world s mid) puller server listed fetched None last kept apart are files refl u a
+          | inr held ↦ held_stays mid last.world puller u rest held
         ]
 
-    pull : SomePages sent puller server page → SomePull w puller server
-    pull (listed, at_once, first, mid, pages) = by first pages (files_some mid puller server listed q.sound apart are)
+    pull : SomePages sent puller server page → SomePull s puller server
+    pull (listed, at_once, first, mid, pages) = by first pages (files_some (in_world s mid) puller server listed kept apart are)
       where
         q : Passes puller sent mid
         q = pages_pass sent puller server page listed at_once first mid p.sound pages
+
+        kept : IsKept (in_world s mid)
+        kept = leads_kept puller s (in_world s mid) h (paged_leads s puller server sent page listed at_once first mid h refl pages)
 
         all : mid.all ≡ w.all
         all = pages_all sent puller server page listed at_once first mid pages
@@ -366,18 +376,19 @@ pulls_some w puller server h apart = pull (pages_some sent puller server S page 
         are : (u : Update) → In u listed → IsRecordOf mid server u
         are u a = stays_record server w mid (record { all = all; member = p.others server apart ∙ q.others server apart }) u (asked.each u (pages_list sent puller server page listed at_once first mid pages u a)).0
 
-        done : (first : Option Refusal) → TakesPages sent puller server page listed at_once first mid → (fetched : ℕ) (why : Option Refusal) (new : World) → GoesOn first mid (After listed fetched) why new → SomePull w puller server
+        done : (first : Option Refusal) → TakesPages sent puller server page listed at_once first mid → (fetched : ℕ) (why : Option Refusal) (new : Scene) → GoesOn first (in_world s mid) (Rest puller server S listed fetched) why new
+            → SomePull s puller server
         done first pages fetched why new on = (at_once + fetched, why, new, (sent, page, listed, at_once, fetched, first, mid, refl, asked, pages, on, refl))
 
-        ends : (second : Option Refusal) (fetched : ℕ) (last : World) → TakesPages sent puller server page listed at_once None mid → TakesFiles mid puller server listed fetched second last → SomePull w puller server
+        ends : (second : Option Refusal) (fetched : ℕ) (last : Scene) → TakesPages sent puller server page listed at_once None mid → TakesFiles (in_world s mid) puller server listed fetched second last → SomePull s puller server
         ends (Some refused) fetched last pages files = done None pages fetched (Some refused) last (Some refused, last, files, (refl, refl))
         ends None fetched last pages files =
-            let r = files_pass mid puller server listed fetched None last q.sound files in
-            let whole = passes_trans puller w mid last (passes_trans puller w sent mid p q) r in
-            let (why, new, end) = ends_some last puller S r.sound (h.vectors server) (server, (passes_trans puller sent mid last q r).grows.vectors _ (inl refl))
-            (all_held listed at_once fetched mid last pages files q.sound whole.grows r.grows (files_all mid puller server listed fetched None last files ∙ all) are) in
-            done None pages fetched why new (None, last, files, end)
+            let r = (files_lead (in_world s mid) puller server listed fetched None last kept files).passes in
+            let whole = passes_trans puller w mid last.world (passes_trans puller w sent mid p q) r in
+            let (why, new, end) = ends_some last.world puller S r.sound (h.world.vectors server) (server, (passes_trans puller sent mid last.world q r).grows.vectors _ (inl refl))
+            (all_held listed at_once fetched mid last pages files kept whole.grows r.grows (files_all (in_world s mid) puller server listed fetched None last files ∙ all) are) in
+            done None pages fetched why (in_world last new) (None, last, files, (new, end, refl))
 
-        by : (first : Option Refusal) → TakesPages sent puller server page listed at_once first mid → SomeFiles mid puller server listed → SomePull w puller server
-        by (Some refused) pages files = done (Some refused) pages 0 (Some refused) mid (refl, refl)
+        by : (first : Option Refusal) → TakesPages sent puller server page listed at_once first mid → SomeFiles (in_world s mid) puller server listed → SomePull s puller server
+        by (Some refused) pages files = done (Some refused) pages 0 (Some refused) (in_world s mid) (refl, refl)
         by None pages (fetched, second, last, files) = ends second fetched last pages files

@@ -28,7 +28,7 @@ named_grows s name kind = member_grows s.world (database_of (length s.names + 1)
 line_grows : (s : Scene) (line : Line) (text : List ℕ) (new : Scene) → IsSoundScene s → IsLine line → Does s line text new → Grows s.world new.world
 line_grows s line text new h form does = does_follow s (λ (z : Scene). Grows s.world z.world) line text new h form (record {
   same = grows_refl s.world;
-  further = λ name d w named p. p.grows;
+  further = λ name d new named l. l.passes.grows;
   named = λ name kind. named_grows s name kind;
 }) does
 
@@ -48,7 +48,7 @@ get_push (z ∷ xs) y (suc k) x e = get_push xs y k x e
 line_names : (s : Scene) (line : Line) (text : List ℕ) (new : Scene) (k : ℕ) (name : List ℕ) → IsSoundScene s → IsLine line → Does s line text new → slice_get s.names k ≡ Some name → slice_get new.names k ≡ Some name
 line_names s line text new k name h form does at = does_follow s (λ (z : Scene). slice_get z.names k ≡ Some name) line text new h form (record {
   same = at;
-  further = λ other d w named p. at;
+  further = λ other d new named l. subst (λ ns. slice_get ns k ≡ Some name) (sym l.names) at;
   named = λ other kind. get_push s.names other k name at;
 }) does
 

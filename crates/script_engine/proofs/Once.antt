@@ -18,9 +18,13 @@ use Rattle.script_engine.specs.Widening.{Exceeds, Fits}
 use Rattle.script_engine.specs.declared.consumed.Consumed.{Consumed}
 use Rattle.script_engine.specs.declared.consumed.Consumed.TheVariants.{Made, Skipped}
 use Rattle.script_engine.specs.Consuming.{ConsumesAll, ConsumesNext, ConsumesOne, IsAtEnd, IsTooWide, widened}
-use Rattle.script_engine.specs.Pulling.{Ends, GoesOn, IsAsked, IsLastPending, Pulls, Takes, TakesFiles, TakesPages}
+use Rattle.script_engine.specs.Pulling.{Ends, Gives, GoesOn, IsAsked, IsLastPending, Pulls, Rest, Takes, TakesFiles, TakesPages, with_given}
+use Rattle.script_engine.specs.Scene.{Scene, in_world}
+use Rattle.script_engine.proofs.Gives.{IsKept, gives_one, gives_sum}
+use Rattle.script_engine.proofs.Leading.{leads_kept}
+use Rattle.script_engine.proofs.Pulled.{given_leads, paged_leads}
 use Rattle.script_engine.proofs.Orders.{Before, by_version, gvsn_irrefl, gvsn_trans, sorted_one}
-use Rattle.script_engine.proofs.Passing.{consumes_one_passes, pages_pass, passes_vector, takes_passes}
+use Rattle.script_engine.proofs.Passing.{consumes_one_passes}
 use Rattle.script_engine.proofs.Vectors.{exceeds_one, not_both}
 
 -- ---- lists
@@ -129,6 +133,12 @@ record SameTaken (a b : ℕ) (why other : Option Refusal) (m n : World) : Type 0
   refusal : why ≡ other
   world : m ≡ n
 
+-- so many updates, one refusal or none, and one scene
+record SameFiles (a b : ℕ) (why other : Option Refusal) (m n : Scene) : Type 0 where
+  taken : a ≡ b
+  refusal : why ≡ other
+  scene : m ≡ n
+
 -- and one list
 record SamePages (l k : List Update) (a b : ℕ) (why other : Option Refusal) (m n : World) : Type 0 where
   listed : l ≡ k
@@ -183,38 +193,41 @@ last_one w d u m n a b =
 not_pending : (w : World) (d : ℕ) (u v : Update) (usn : ℕ) → IsLastPending w d u.uid usn → v.uid ≡ u.uid → IsOfFile w d v → ⊥
 not_pending w d u v usn last same (held, quiet) = let (r, c, e, l, id) = last.pending in quiet (usn, r, c, e, l, id ∙ sym same)
 
-files_one : (w : World) (puller server : ℕ) (us : List Update) (a b : ℕ) (why other : Option Refusal) (m n : World) → IsSoundWorld w
-    → TakesFiles w puller server us a why m → TakesFiles w puller server us b other n → SameTaken a b why other m n
-files_one w puller server [] a b why other m n h (z, q, is) (z', q', is') = record { taken = z ∙ sym z'; refusal = q ∙ sym q'; world = is ∙ sym is' }
-files_one w puller server (u ∷ us) a b why other m n h (inl (beaten, p)) (inl (beaten', p')) = files_one w puller server us a b why other m n h p p'
-files_one w puller server (u ∷ us) a b why other m n h (inl (beaten, p)) (inr (inl (wanted, _, _, _, _, _))) = absurd (beaten wanted)
-files_one w puller server (u ∷ us) a b why other m n h (inl (beaten, p)) (inr (inr (inl (v, mid, others, wanted, _, _, _, _, _)))) = absurd (beaten wanted)
-files_one w puller server (u ∷ us) a b why other m n h (inl (beaten, p)) (inr (inr (inr (v, count, wanted, _, _, _, _, _, _)))) = absurd (beaten wanted)
-files_one w puller server (u ∷ us) a b why other m n h (inr (inl (wanted, _, _, _, _, _))) (inl (beaten, p')) = absurd (beaten wanted)
-files_one w puller server (u ∷ us) a b why other m n h (inr (inl (wanted, usn, last, z, q, is))) (inr (inl (wanted', usn', last', z', q', is'))) =
-    record { taken = z ∙ sym z'; refusal = q ∙ ap (λ x. Some (NotYet x)) (last_one w server u usn usn' last last') ∙ sym q'; world = is ∙ sym is' }
-files_one w puller server (u ∷ us) a b why other m n h (inr (inl (wanted, usn, last, _, _, _))) (inr (inr (inl (v, mid, others, wanted', same, file, _, _, _)))) = absurd (not_pending w server u v usn last same file)
-files_one w puller server (u ∷ us) a b why other m n h (inr (inl (wanted, usn, last, _, _, _))) (inr (inr (inr (v, count, wanted', same, file, _, _, _, _)))) = absurd (not_pending w server u v usn last same file)
-files_one w puller server (u ∷ us) a b why other m n h (inr (inr (inl (v, mid, others, wanted, _, _, _, _, _)))) (inl (beaten, p')) = absurd (beaten wanted)
-files_one w puller server (u ∷ us) a b why other m n h (inr (inr (inl (v, mid, others, wanted, same, file, _, _, _)))) (inr (inl (wanted', usn, last, _, _, _))) = absurd (not_pending w server u v usn last same file)
-files_one w puller server (u ∷ us) a b why other m n h (inr (inr (inl (v, mid, others, wanted, same, file, took, p, count)))) (inr (inr (inl (v', mid', others', wanted', same', file', took', p', count')))) =
-    let one : v ≡ v' = record_one w server v v' h.invariant.versions file.0 file'.0 (same ∙ sym same') in
-    let world : mid ≡ mid' = takes_one w puller server v mid mid' took (subst (λ x. Takes w puller server x mid') (sym one) took') in
-    let more = takes_passes w puller server v mid h took in
-    let r = files_one mid puller server us others others' why other m n more.sound p (subst (λ z. TakesFiles z puller server us others' other n) (sym world) p') in
-    record { taken = count ∙ ap (λ x. x + 1) r.taken ∙ sym count'; refusal = r.refusal; world = r.world }
-files_one w puller server (u ∷ us) a b why other m n h (inr (inr (inl (v, mid, others, wanted, same, file, took, _, _)))) (inr (inr (inr (v', count, wanted', same', file', much, _, _, _)))) =
-    let one : v ≡ v' = record_one w server v v' h.invariant.versions file.0 file'.0 (same ∙ sym same') in
-    absurd (not_both (plus (w.at puller).known v'.gvsn) count (subst (λ (x : Update). Fits (plus (w.at puller).known x.gvsn)) one took.0) much.1)
-files_one w puller server (u ∷ us) a b why other m n h (inr (inr (inr (v, count, wanted, _, _, _, _, _, _)))) (inl (beaten, p')) = absurd (beaten wanted)
-files_one w puller server (u ∷ us) a b why other m n h (inr (inr (inr (v, count, wanted, same, file, _, _, _, _)))) (inr (inl (wanted', usn, last, _, _, _))) = absurd (not_pending w server u v usn last same file)
-files_one w puller server (u ∷ us) a b why other m n h (inr (inr (inr (v, count, wanted, same, file, much, _, _, _)))) (inr (inr (inl (v', mid, others, wanted', same', file', took, _, _)))) =
-    let one : v' ≡ v = record_one w server v' v h.invariant.versions file'.0 file.0 (same' ∙ sym same) in
-    absurd (not_both (plus (w.at puller).known v.gvsn) count (subst (λ (x : Update). Fits (plus (w.at puller).known x.gvsn)) one took.0) much.1)
-files_one w puller server (u ∷ us) a b why other m n h (inr (inr (inr (v, count, wanted, same, file, much, is, z, q)))) (inr (inr (inr (v', count', wanted', same', file', much', is', z', q')))) =
-    let one : v' ≡ v = record_one w server v' v h.invariant.versions file'.0 file.0 (same' ∙ sym same) in
-    let long : count ≡ count' = exceeds_one (plus (w.at puller).known v.gvsn) count count' much.1 (subst (λ (x : Update). Exceeds (plus (w.at puller).known x.gvsn) count') one much'.1) in
-    record { taken = z ∙ sym z'; refusal = q ∙ ap (λ x. Some (VectorFull x)) long ∙ sym q'; world = is ∙ sym is' }
+files_one : (s : Scene) (puller server : ℕ) (us : List Update) (a b : ℕ) (why other : Option Refusal) (m n : Scene) → IsKept s
+    → TakesFiles s puller server us a why m → TakesFiles s puller server us b other n → SameFiles a b why other m n
+files_one s puller server [] a b why other m n h (z, q, is) (z', q', is') = record { taken = z ∙ sym z'; refusal = q ∙ sym q'; scene = is ∙ sym is' }
+files_one s puller server (u ∷ us) a b why other m n h (inl (beaten, p)) (inl (beaten', p')) = files_one s puller server us a b why other m n h p p'
+files_one s puller server (u ∷ us) a b why other m n h (inl (beaten, p)) (inr (inl (wanted, _, _, _, _, _))) = absurd (beaten wanted)
+files_one s puller server (u ∷ us) a b why other m n h (inl (beaten, p)) (inr (inr (inl (v, given, mid, others, wanted, _, _, _, _, _, _)))) = absurd (beaten wanted)
+files_one s puller server (u ∷ us) a b why other m n h (inl (beaten, p)) (inr (inr (inr (v, count, wanted, _, _, _, _, _, _)))) = absurd (beaten wanted)
+files_one s puller server (u ∷ us) a b why other m n h (inr (inl (wanted, _, _, _, _, _))) (inl (beaten, p')) = absurd (beaten wanted)
+files_one s puller server (u ∷ us) a b why other m n h (inr (inl (wanted, usn, last, z, q, is))) (inr (inl (wanted', usn', last', z', q', is'))) =
+    record { taken = z ∙ sym z'; refusal = q ∙ ap (λ x. Some (NotYet x)) (last_one s.world server u usn usn' last last') ∙ sym q'; scene = is ∙ sym is' }
+files_one s puller server (u ∷ us) a b why other m n h (inr (inl (wanted, usn, last, _, _, _))) (inr (inr (inl (v, given, mid, others, wanted', same, file, _, _, _, _)))) = absurd (not_pending s.world server u v usn last same file)
+files_one s puller server (u ∷ us) a b why other m n h (inr (inl (wanted, usn, last, _, _, _))) (inr (inr (inr (v, count, wanted', same, file, _, _, _, _)))) = absurd (not_pending s.world server u v usn last same file)
+files_one s puller server (u ∷ us) a b why other m n h (inr (inr (inl (v, given, mid, others, wanted, _, _, _, _, _, _)))) (inl (beaten, p')) = absurd (beaten wanted)
+files_one s puller server (u ∷ us) a b why other m n h (inr (inr (inl (v, given, mid, others, wanted, same, file, _, _, _, _)))) (inr (inl (wanted', usn, last, _, _, _))) = absurd (not_pending s.world server u v usn last same file)
+files_one s puller server (u ∷ us) a b why other m n h (inr (inr (inl (v, given, mid, others, wanted, same, file, gives, took, p, count)))) (inr (inr (inl (v', given', mid', others', wanted', same', file', gives', took', p', count')))) =
+    let one : v ≡ v' = record_one s.world server v v' h.world.invariant.versions file.0 file'.0 (same ∙ sym same') in
+    let world : mid ≡ mid' = takes_one s.world puller server v mid mid' took (subst (λ x. Takes s.world puller server x mid') (sym one) took') in
+    let gave : given ≡ given' = gives_one s server v given given' h.world.invariant gives (subst (λ x. Gives s server x given') (sym one) gives') in
+    let next = with_given s puller v given mid in
+    let same_next : next ≡ with_given s puller v' given' mid' = λ i. with_given s puller (one i) (gave i) (world i) in
+    let more = given_leads s puller server v given mid h.world (gives_sum s server v given h file gives) took in
+    let r = files_one next puller server us others others' why other m n (leads_kept puller s next h more) p (subst (λ z. TakesFiles z puller server us others' other n) (sym same_next) p') in
+    record { taken = count ∙ ap (λ x. x + 1) r.taken ∙ sym count'; refusal = r.refusal; scene = r.scene }
+files_one s puller server (u ∷ us) a b why other m n h (inr (inr (inl (v, given, mid, others, wanted, same, file, _, took, _, _)))) (inr (inr (inr (v', count, wanted', same', file', much, _, _, _)))) =
+    let one : v ≡ v' = record_one s.world server v v' h.world.invariant.versions file.0 file'.0 (same ∙ sym same') in
+    absurd (not_both (plus (s.world.at puller).known v'.gvsn) count (subst (λ (x : Update). Fits (plus (s.world.at puller).known x.gvsn)) one took.0) much.1)
+files_one s puller server (u ∷ us) a b why other m n h (inr (inr (inr (v, count, wanted, _, _, _, _, _, _)))) (inl (beaten, p')) = absurd (beaten wanted)
+files_one s puller server (u ∷ us) a b why other m n h (inr (inr (inr (v, count, wanted, same, file, _, _, _, _)))) (inr (inl (wanted', usn, last, _, _, _))) = absurd (not_pending s.world server u v usn last same file)
+files_one s puller server (u ∷ us) a b why other m n h (inr (inr (inr (v, count, wanted, same, file, much, _, _, _)))) (inr (inr (inl (v', mid, others, wanted', same', file', took, _, _)))) =
+    let one : v' ≡ v = record_one s.world server v' v h.world.invariant.versions file'.0 file.0 (same' ∙ sym same) in
+    absurd (not_both (plus (s.world.at puller).known v.gvsn) count (subst (λ (x : Update). Fits (plus (s.world.at puller).known x.gvsn)) one took.0) much.1)
+files_one s puller server (u ∷ us) a b why other m n h (inr (inr (inr (v, count, wanted, same, file, much, is, z, q)))) (inr (inr (inr (v', count', wanted', same', file', much', is', z', q')))) =
+    let one : v' ≡ v = record_one s.world server v' v h.world.invariant.versions file'.0 file.0 (same' ∙ sym same) in
+    let long : count ≡ count' = exceeds_one (plus (s.world.at puller).known v.gvsn) count count' much.1 (subst (λ (x : Update). Exceeds (plus (s.world.at puller).known x.gvsn) count') one much'.1) in
+    record { taken = z ∙ sym z'; refusal = q ∙ ap (λ x. Some (VectorFull x)) long ∙ sym q'; scene = is ∙ sym is' }
 
 ends_one : (w : World) (puller : ℕ) (s : Versions) (why other : Option Refusal) (m n : World) → Ends w puller s why m → Ends w puller s other n → Alike why other m n
 ends_one w puller s why other m n (inl (fits, end, q)) (inl (fits', end', q')) = (q ∙ sym q', end.2 ∙ sym end'.2)
@@ -224,49 +237,54 @@ ends_one w puller s why other m n (inr (count, much, q, is)) (inr (count', much'
     (q ∙ ap (λ x. Some (VectorFull x)) (exceeds_one (both (w.at puller).known s) count count' much much') ∙ sym q', is ∙ sym is')
 
 -- what follows, where it is one and tells P unless it is refused
-pub record SameOn (P : Type 0) (why other : Option Refusal) (m n : World) : Type 0 where
+pub record SameOn {X : Type 0} (P : Type 0) (why other : Option Refusal) (m n : X) : Type 0 where
   pub refusal : why ≡ other
-  pub world : m ≡ n
+  pub scene : m ≡ n
   pub told : why ≡ None → P
 
-goes_on_one : (P : Type 0) (first : Option Refusal) (mid : World) (next following : World → Option Refusal → World → Type 0) (why other : Option Refusal) (m n : World)
+goes_on_one : {X : Type 0} (P : Type 0) (first : Option Refusal) (mid : X) (next following : X → Option Refusal → X → Type 0) (why other : Option Refusal) (m n : X)
     → (next mid why m → following mid other n → SameOn P why other m n) → GoesOn first mid next why m → GoesOn first mid following other n → SameOn P why other m n
 goes_on_one P None mid next following why other m n one a b = one a b
 goes_on_one P (Some refused) mid next following why other m n one (q, is) (q', is') =
-    record { refusal = q ∙ sym q'; world = is ∙ sym is'; told = λ none. absurd (none_some refused (sym none ∙ q)) }
+    record { refusal = q ∙ sym q'; scene = is ∙ sym is'; told = λ none. absurd (none_some refused (sym none ∙ q)) }
 
-pub pulls_one : (w : World) (puller server a b : ℕ) (why other : Option Refusal) (m n : World) → IsSoundWorld w → Pulls w puller server a why m → Pulls w puller server b other n → SameOn (a ≡ b) why other m n
-pulls_one w puller server a b why other m n h (sent, page, listed, at_once, fetched, first, mid, send, asked, pages, on, count) (sent', page', listed', at_once', fetched', first', mid', send', asked', pages', on', count') =
-    record { refusal = r.refusal; world = r.world; told = λ none. count ∙ (λ i. one.rest.taken i + r.told none i) ∙ sym count' }
+-- the end behind the files
+abbrev Closes : ℕ → Versions → Scene → Option Refusal → Scene → Type 0
+Closes puller versions filed why new = (w : World) × Ends filed.world puller versions why w × (new ≡ in_world filed w)
+
+closes_one : (P : Type 0) (s : Scene) (puller : ℕ) (versions : Versions) (why other : Option Refusal) (m n : Scene) → P → Closes puller versions s why m → Closes puller versions s other n → SameOn P why other m n
+closes_one P s puller versions why other m n told (w, ends, is) (w', ends', is') =
+    let (q, same) = ends_one s.world puller versions why other w w' ends ends' in
+    record { refusal = q; scene = is ∙ (ap (in_world s) same ∙ sym is'); told = λ none. told }
+
+rest_one : (s : Scene) (puller server : ℕ) (versions : Versions) (listed : List Update) (a b : ℕ) (why other : Option Refusal) (m n : Scene) → IsKept s
+    → Rest puller server versions listed a s why m → Rest puller server versions listed b s other n → SameOn (a ≡ b) why other m n
+rest_one s puller server versions listed a b why other m n h (second, last, files, on) (second', last', files', on') =
+    let same = files_one s puller server listed a b second second' last last' h files files' in
+    goes_on_one (a ≡ b) second last (Closes puller versions) (Closes puller versions) why other m n (λ e e'. closes_one (a ≡ b) last puller versions why other m n same.taken e e')
+    on (subst (λ z. GoesOn second z (Closes puller versions) other n) (sym same.scene) (subst (λ z. GoesOn z last' (Closes puller versions) other n) (sym same.refusal) on'))
+
+pub pulls_one : (s : Scene) (puller server a b : ℕ) (why other : Option Refusal) (m n : Scene) → IsKept s → Pulls s puller server a why m → Pulls s puller server b other n → SameOn (a ≡ b) why other m n
+pulls_one s puller server a b why other m n h (sent, page, listed, at_once, fetched, first, mid, send, asked, pages, on, count) (sent', page', listed', at_once', fetched', first', mid', send', asked', pages', on', count') =
+    record { refusal = r.refusal; scene = r.scene; told = λ none. count ∙ (λ i. one.rest.taken i + r.told none i) ∙ sym count' }
   where
-    here : IsSoundWorld sent
-    here = (passes_vector w puller server sent h send).sound
+    w : World
+    w = s.world
+
+    versions : Versions
+    versions = (w.at server).known
 
     one : SamePages listed listed' at_once at_once' first first' mid mid'
     one = pages_one sent puller server page listed listed' at_once at_once' first first' mid mid' pages
         (subst (λ us. TakesPages sent puller server us listed' at_once' first' mid') (page_one w puller server page' page asked' asked)
         (subst (λ z. TakesPages z puller server page' listed' at_once' first' mid') (send' ∙ sym send) pages'))
 
-    there : IsSoundWorld mid
-    there = (pages_pass sent puller server page listed at_once first mid here pages).sound
-
-    -- what comes after the pages
-    After : List Update → ℕ → World → Option Refusal → World → Type 0
-    After files fetched paged why new = (second : Option Refusal) × (last : World) × TakesFiles paged puller server files fetched second last
-        × GoesOn second last (λ filed why new. Ends filed puller (w.at server).known why new) why new
-
-    ending : (second second' : Option Refusal) (last last' : World) → SameTaken fetched fetched' second second' last last'
-        → GoesOn second last (λ filed why new. Ends filed puller (w.at server).known why new) why m
-        → GoesOn second' last' (λ filed why new. Ends filed puller (w.at server).known why new) other n → SameOn (fetched ≡ fetched') why other m n
-    ending second second' last last' same g g' =
-        goes_on_one (fetched ≡ fetched') second last (λ filed why new. Ends filed puller (w.at server).known why new) (λ filed why new. Ends filed puller (w.at server).known why new) why other m n
-        (λ e e'. let (q, is) = ends_one last puller (w.at server).known why other m n e e' in record { refusal = q; world = is; told = λ none. same.taken })
-        g (subst (λ z. GoesOn second z (λ filed why new. Ends filed puller (w.at server).known why new) other n) (sym same.world)
-        (subst (λ z. GoesOn z last' (λ filed why new. Ends filed puller (w.at server).known why new) other n) (sym same.refusal) g'))
+    there : IsKept (in_world s mid)
+    there = leads_kept puller s (in_world s mid) h (paged_leads s puller server sent page listed at_once first mid h send pages)
 
     r : SameOn (fetched ≡ fetched') why other m n
-    r = goes_on_one (fetched ≡ fetched') first mid (After listed fetched) (After listed fetched') why other m n
-        (λ (second, last, files, g) (second', last', files', g'). ending second second' last last' (files_one mid puller server listed fetched fetched' second second' last last' there files files') g g')
-        on (subst (λ z. GoesOn first z (After listed fetched') other n) (sym one.rest.world)
-        (subst (λ z. GoesOn z mid' (After listed fetched') other n) (sym one.rest.refusal)
-        (subst (λ us. GoesOn first' mid' (After us fetched') other n) (sym one.listed) on')))
+    r = goes_on_one (fetched ≡ fetched') first (in_world s mid) (Rest puller server versions listed fetched) (Rest puller server versions listed fetched') why other m n
+        (rest_one (in_world s mid) puller server versions listed fetched fetched' why other m n there)
+        on (subst (λ z. GoesOn first (in_world s z) (Rest puller server versions listed fetched') other n) (sym one.rest.world)
+        (subst (λ z. GoesOn z (in_world s mid') (Rest puller server versions listed fetched') other n) (sym one.rest.refusal)
+        (subst (λ us. GoesOn first' (in_world s mid') (Rest puller server versions us fetched') other n) (sym one.listed) on')))

@@ -1,5 +1,6 @@
 -- A local operation at a member's machine is one at the member.
-use Rattle.std.proofs.Common.{◌≡◌, ◌+◌, ◌⊎◌, ℕ, refl, sym, ap, ◌∙◌, subst, arith, inl, inr, MatchResult, Result, Ok, Err}
+use Rattle.std.proofs.Common.{◌≡◌, ◌+◌, ◌⊎◌, ℕ, List, refl, sym, ap, ◌∙◌, subst, arith, inl, inr, MatchResult, Result, Ok, Err}
+use Rattle.frs_base.specs.declared.version.Uid.{Uid}
 use Rattle.vol_state.specs.declared.command.VolCmd.{VolCmd}
 use Rattle.vol_state.specs.declared.operation.LocalOp.{LocalOp}
 use Rattle.vol_state.specs.declared.operation.Refused.{Refused}
@@ -13,6 +14,7 @@ use Rattle.vol_state.proofs.Tabling.{tables_are_tests}
 use Rattle.vol_state.proofs.Permitted.{resolved_may}
 use Rattle.vol_state.proofs.Resolved.{lists_resolve}
 use Rattle.record_db.specs.Standing.{StandsFor}
+use Rattle.record_db.specs.State.{form_of}
 use Rattle.world_model.specs.World.{World, with_member}
 use Rattle.world_model.specs.Events.{Step, Local as LocalEvent, operated}
 use Rattle.world_model.proofs.Changing.{at_same}
@@ -23,7 +25,7 @@ use Rattle.folder_core.specs.Machine.{Machine, Refuses as IsRefusedBy}
 use Rattle.folder_core.specs.Local.{AnswersLocal, Operates}
 use Rattle.folder_core.specs.Sound.{IsSound as IsSoundMachine}
 use Rattle.script_engine.specs.Sound.{IsSoundWorld}
-use Rattle.script_engine.specs.Standing.{MachineStands, local_in}
+use Rattle.script_engine.specs.Standing.{HoldsContents, MachineStands, local_in}
 use Rattle.script_engine.proofs.Advancing.{Goes, beside_same}
 use Rattle.script_engine.proofs.Journals.{local_one, recorded_still}
 use Rattle.script_engine.proofs.Passing.{passes_local}
@@ -36,6 +38,7 @@ pub record Done (w : World) (d : ℕ) (op : LocalOp) (m : Machine) (reply : Repl
   pub step : Step w d (LocalEvent cmd) after
   pub reply_is : reply ≡ Usn (w.at d).volume.next_usn
   pub goes : Goes w d m new after
+  pub keeps : (contents : Uid → List ℕ) → HoldsContents contents m → HoldsContents contents new
   pub local : local_in new ≡ local_in m + 1
 
 -- it is refused
@@ -84,6 +87,7 @@ done w d op cmd m reply new sound s keeps resolves (said, is) =
         ours = λ h. h;
         counted = let still = recorded_still cmd m new (w.at d).volume may is in omega (arith, still);
       };
+      keeps = λ contents h uid form staged. h uid form (sym (ap (λ (y : Machine). form_of y.book uid) is) ∙ staged);
       local = local_one cmd m new (w.at d).volume may is;
     }
 

@@ -21,7 +21,8 @@ use Rattle.world_model.proofs.Rounds.{adopted_is_held, held_stays, not_better}
 use Rattle.world_model.proofs.Versions.{step_made, step_sent}
 use Rattle.script_engine.specs.declared.refusal.Refusal.{Refusal}
 use Rattle.script_engine.specs.declared.refusal.Refusal.TheVariants.{NotYet, VectorFull}
-use Rattle.script_engine.specs.Pulling.{IsLastPending, IsTooMuch, Takes, TakesFiles, TakesPages}
+use Rattle.script_engine.specs.Pulling.{Gives, IsLastPending, IsTooMuch, Takes, TakesFiles, TakesPages, with_given}
+use Rattle.script_engine.specs.Scene.{Scene}
 use Rattle.script_engine.specs.Begun.{BeginsFiles, BeginsPages}
 use Rattle.script_engine.specs.Pulls.{AreCovered, ArePages, AreTreated, CanTake}
 
@@ -159,16 +160,16 @@ page_can start w p s page u made pages grows here wanted =
 -- ---- files
 
 -- the first i files were treated
-pub record FilesSo (start : World) (p s : ℕ) (files : List Update) (i : ℕ) (w : World) (taken : ℕ) : Type 0 where
-  pub goes_on : (rest : List Update) (others : ℕ) (why : Option Refusal) (new : World) → TakesFiles w p s rest others why new → TakesFiles start p s (take i files ++ rest) (taken + others) why new
-  pub held : (u : Update) → In u (take i files) → IsHeldOrBeaten (IsRecordOf w p) u
-  pub grows : Grows start w
+pub record FilesSo (start : Scene) (p s : ℕ) (files : List Update) (i : ℕ) (t : Scene) (taken : ℕ) : Type 0 where
+  pub goes_on : (rest : List Update) (others : ℕ) (why : Option Refusal) (new : Scene) → TakesFiles t p s rest others why new → TakesFiles start p s (take i files ++ rest) (taken + others) why new
+  pub held : (u : Update) → In u (take i files) → IsHeldOrBeaten (IsRecordOf t.world p) u
+  pub grows : Grows start.world t.world
 
-pub files_begin : (w : World) (p s : ℕ) (files : List Update) → FilesSo w p s files 0 w 0
-files_begin w p s files = record {
-  goes_on = λ rest others why new t. subst (λ n. TakesFiles w p s rest n why new) (omega arith) t;
+pub files_begin : (t : Scene) (p s : ℕ) (files : List Update) → FilesSo t p s files 0 t 0
+files_begin t p s files = record {
+  goes_on = λ rest others why new k. subst (λ n. TakesFiles t p s rest n why new) (omega arith) k;
   held = λ u here. absurd here;
-  grows = grows_refl w;
+  grows = grows_refl t.world;
 }
 
 held_more : (w : World) (p : ℕ) (files : List Update) (i : ℕ) (u : Update) → i < length files → u ≡ get_or files i u → ((v : Update) → In v (take i files) → IsHeldOrBeaten (IsRecordOf w p) v) → IsHeldOrBeaten (IsRecordOf w p) u
@@ -179,11 +180,11 @@ held_more w p files i u within is held mine v here = elim (in_append v (take i f
   | inr (inr none) ↦ absurd none
 ]
 
-pub files_pass : (start : World) (p s : ℕ) (files : List Update) (i : ℕ) (w : World) (taken : ℕ) (u : Update) → FilesSo start p s files i w taken → i < length files → u ≡ get_or files i u
-    → (IsWanted w p u → ⊥) → FilesSo start p s files (i + 1) w taken
-files_pass start p s files i w taken u so within is never = record {
-  goes_on = λ rest others why new t. subst (λ l. TakesFiles start p s l (taken + others) why new) (take_one files i u rest within is) (so.goes_on (u ∷ rest) others why new (inl (never, t)));
-  held = held_more w p files i u within is so.held (not_better w p u never);
+pub files_pass : (start : Scene) (p s : ℕ) (files : List Update) (i : ℕ) (t : Scene) (taken : ℕ) (u : Update) → FilesSo start p s files i t taken → i < length files → u ≡ get_or files i u
+    → (IsWanted t.world p u → ⊥) → FilesSo start p s files (i + 1) t taken
+files_pass start p s files i t taken u so within is never = record {
+  goes_on = λ rest others why new k. subst (λ l. TakesFiles start p s l (taken + others) why new) (take_one files i u rest within is) (so.goes_on (u ∷ rest) others why new (inl (never, k)));
+  held = held_more t.world p files i u within is so.held (not_better t.world p u never);
   grows = so.grows;
 }
 
@@ -194,37 +195,38 @@ first_held w p s u v next made sent covered file wins (fits, mid, send, adopt) =
     let (q, is, same, low) = adopted_is_held mid p v next (step_made w s (SendUpdate v) mid made sent send) (step_sent w s (SendUpdate v) mid sent send) adopt in
     (q, is, same ∙ file, no_smaller q v u low below)
 
-pub files_take : (start : World) (p s : ℕ) (files : List Update) (i : ℕ) (w : World) (taken : ℕ) (u v : Update) (next : World) → VersionsAreMade w → SentIsKnown w → FilesSo start p s files i w taken → i < length files → u ≡ get_or files i u
-    → Covered w.all (w.at s).known u → IsWanted w p u → v.uid ≡ u.uid → IsOfFile w s v → Takes w p s v next → FilesSo start p s files (i + 1) next (taken + 1)
-files_take start p s files i w taken u v next made sent so within is covered wanted file of_file takes = record {
-  goes_on = λ rest others why new t. subst (λ l. TakesFiles start p s l ((taken + 1) + others) why new) (take_one files i u rest within is)
-      (subst (λ n. TakesFiles start p s (take i files ++ (u ∷ rest)) n why new) (omega arith) (so.goes_on (u ∷ rest) (others + 1) why new (inr (inr (inl (v, next, others, wanted, file, of_file, takes, t, refl))))));
-  held = held_more next p files i u within is (λ x here. held_stays w next p x (takes_grow w p s v next takes) (so.held x here)) (first_held w p s u v next made sent covered file of_file.0 takes);
-  grows = grows_trans start w next so.grows (takes_grow w p s v next takes);
+pub files_take : (start : Scene) (p s : ℕ) (files : List Update) (i : ℕ) (t : Scene) (taken : ℕ) (u v : Update) (given : Option (List ℕ)) (next : World) → VersionsAreMade t.world → SentIsKnown t.world → FilesSo start p s files i t taken
+    → i < length files → u ≡ get_or files i u → Covered t.world.all (t.world.at s).known u → IsWanted t.world p u → v.uid ≡ u.uid → IsOfFile t.world s v → Gives t s v given → Takes t.world p s v next
+    → FilesSo start p s files (i + 1) (with_given t p v given next) (taken + 1)
+files_take start p s files i t taken u v given next made sent so within is covered wanted file of_file gives takes = record {
+  goes_on = λ rest others why new k. subst (λ l. TakesFiles start p s l ((taken + 1) + others) why new) (take_one files i u rest within is)
+      (subst (λ n. TakesFiles start p s (take i files ++ (u ∷ rest)) n why new) (omega arith) (so.goes_on (u ∷ rest) (others + 1) why new (inr (inr (inl (v, given, next, others, wanted, file, of_file, gives, takes, k, refl))))));
+  held = held_more next p files i u within is (λ x here. held_stays t.world next p x (takes_grow t.world p s v next takes) (so.held x here)) (first_held t.world p s u v next made sent covered file of_file.0 takes);
+  grows = grows_trans start.world t.world next so.grows (takes_grow t.world p s v next takes);
 }
 
 -- a file is pending at the server
-pub files_wait : (start : World) (p s : ℕ) (files : List Update) (i : ℕ) (w : World) (taken : ℕ) (u : Update) (usn : ℕ) → FilesSo start p s files i w taken → i < length files → u ≡ get_or files i u
-    → IsWanted w p u → IsLastPending w s u.uid usn → TakesFiles start p s files (taken + 0) (Some (NotYet usn)) w
-files_wait start p s files i w taken u usn so within is wanted last =
-    subst (λ l. TakesFiles start p s l (taken + 0) (Some (NotYet usn)) w) (take_whole files i u within is) (so.goes_on (u ∷ drop (i + 1) files) 0 (Some (NotYet usn)) w (inr (inl (wanted, usn, last, refl, refl, refl))))
+pub files_wait : (start : Scene) (p s : ℕ) (files : List Update) (i : ℕ) (t : Scene) (taken : ℕ) (u : Update) (usn : ℕ) → FilesSo start p s files i t taken → i < length files → u ≡ get_or files i u
+    → IsWanted t.world p u → IsLastPending t.world s u.uid usn → TakesFiles start p s files (taken + 0) (Some (NotYet usn)) t
+files_wait start p s files i t taken u usn so within is wanted last =
+    subst (λ l. TakesFiles start p s l (taken + 0) (Some (NotYet usn)) t) (take_whole files i u within is) (so.goes_on (u ∷ drop (i + 1) files) 0 (Some (NotYet usn)) t (inr (inl (wanted, usn, last, refl, refl, refl))))
 
 -- its version would make too many intervals
-pub files_cut : (start : World) (p s : ℕ) (files : List Update) (i : ℕ) (w : World) (taken : ℕ) (u v : Update) (count : ℕ) → FilesSo start p s files i w taken → i < length files → u ≡ get_or files i u
-    → IsWanted w p u → v.uid ≡ u.uid → IsOfFile w s v → IsTooMuch w p v count → TakesFiles start p s files (taken + 0) (Some (VectorFull count)) w
-files_cut start p s files i w taken u v count so within is wanted file of_file much =
-    subst (λ l. TakesFiles start p s l (taken + 0) (Some (VectorFull count)) w) (take_whole files i u within is)
-    (so.goes_on (u ∷ drop (i + 1) files) 0 (Some (VectorFull count)) w (inr (inr (inr (v, count, wanted, file, of_file, much, refl, refl, refl)))))
+pub files_cut : (start : Scene) (p s : ℕ) (files : List Update) (i : ℕ) (t : Scene) (taken : ℕ) (u v : Update) (count : ℕ) → FilesSo start p s files i t taken → i < length files → u ≡ get_or files i u
+    → IsWanted t.world p u → v.uid ≡ u.uid → IsOfFile t.world s v → IsTooMuch t.world p v count → TakesFiles start p s files (taken + 0) (Some (VectorFull count)) t
+files_cut start p s files i t taken u v count so within is wanted file of_file much =
+    subst (λ l. TakesFiles start p s l (taken + 0) (Some (VectorFull count)) t) (take_whole files i u within is)
+    (so.goes_on (u ∷ drop (i + 1) files) 0 (Some (VectorFull count)) t (inr (inr (inr (v, count, wanted, file, of_file, much, refl, refl, refl)))))
 
 -- the first are treated
-pub files_first : (start : World) (p s : ℕ) (files : List Update) (i : ℕ) (w : World) (taken : ℕ) → FilesSo start p s files i w taken → BeginsFiles start p s files w
-files_first start p s files i w taken so = (i, taken + 0, subst (λ l. TakesFiles start p s l (taken + 0) None w) (append-nil (take i files)) (so.goes_on [] 0 None w (refl, refl, refl)))
+pub files_first : (start : Scene) (p s : ℕ) (files : List Update) (i : ℕ) (t : Scene) (taken : ℕ) → FilesSo start p s files i t taken → BeginsFiles start p s files t
+files_first start p s files i t taken so = (i, taken + 0, subst (λ l. TakesFiles start p s l (taken + 0) None t) (append-nil (take i files)) (so.goes_on [] 0 None t (refl, refl, refl)))
 
-pub files_end : (start : World) (p s : ℕ) (files : List Update) (i : ℕ) (w : World) (taken : ℕ) → FilesSo start p s files i w taken → length files ≤ i
-    → TakesFiles start p s files taken None w × ((u : Update) → In u files → IsHeldOrBeaten (IsRecordOf w p) u) × Grows start w
-files_end start p s files i w taken so past = (
-  subst (λ n. TakesFiles start p s files n None w) (omega arith)
-      (subst (λ l. TakesFiles start p s l (taken + 0) None w) (append-nil (take i files) ∙ take_end files i past) (so.goes_on [] 0 None w (refl, refl, refl))),
+pub files_end : (start : Scene) (p s : ℕ) (files : List Update) (i : ℕ) (t : Scene) (taken : ℕ) → FilesSo start p s files i t taken → length files ≤ i
+    → TakesFiles start p s files taken None t × ((u : Update) → In u files → IsHeldOrBeaten (IsRecordOf t.world p) u) × Grows start.world t.world
+files_end start p s files i t taken so past = (
+  subst (λ n. TakesFiles start p s files n None t) (omega arith)
+      (subst (λ l. TakesFiles start p s l (taken + 0) None t) (append-nil (take i files) ∙ take_end files i past) (so.goes_on [] 0 None t (refl, refl, refl))),
   (λ u here. so.held u (subst (In u) (sym (take_end files i past)) here)),
   so.grows,
 )

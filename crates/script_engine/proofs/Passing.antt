@@ -17,7 +17,7 @@ use Rattle.script_engine.specs.declared.refusal.Refusal.{Refusal}
 use Rattle.script_engine.specs.declared.consumed.Consumed.{Consumed}
 use Rattle.script_engine.specs.declared.consumed.Consumed.TheVariants.{Made, Skipped}
 use Rattle.script_engine.specs.Consuming.{ConsumesAll, ConsumesNext, ConsumesOne}
-use Rattle.script_engine.specs.Pulling.{Ends, GoesOn, Pulls, Takes, TakesFiles, TakesPages}
+use Rattle.script_engine.specs.Pulling.{Ends, Takes, TakesPages}
 use Rattle.script_engine.proofs.Vectors.{HasVector, vector_both, vector_plus}
 use Rattle.script_engine.proofs.Volumes.{local_lists}
 
@@ -139,30 +139,6 @@ pages_pass w puller server (u ∷ us) listed taken why new h (inr (inr (inl (oth
     let p = takes_passes w puller server u mid h took in passes_trans puller w mid new p (pages_pass mid puller server us listed others why new p.sound rest)
 pages_pass w puller server (u ∷ us) listed taken why new h (inr (inr (inr (other, count, much, is, rest, zero, some)))) = subst (Passes puller w) (sym is) (passes_refl puller w h)
 
-pub files_pass : (w : World) (puller server : ℕ) (us : List Update) (taken : ℕ) (why : Option Refusal) (new : World) → IsSoundWorld w
-    → TakesFiles w puller server us taken why new → Passes puller w new
-files_pass w puller server [] taken why new h (zero, none, is) = subst (Passes puller w) (sym is) (passes_refl puller w h)
-files_pass w puller server (u ∷ us) taken why new h (inl (beaten, rest)) = files_pass w puller server us taken why new h rest
-files_pass w puller server (u ∷ us) taken why new h (inr (inl (wanted, usn, last, zero, some, is))) = subst (Passes puller w) (sym is) (passes_refl puller w h)
-files_pass w puller server (u ∷ us) taken why new h (inr (inr (inl (v, mid, others, wanted, file, held, took, rest, count)))) =
-    let p = takes_passes w puller server v mid h took in passes_trans puller w mid new p (files_pass mid puller server us others why new p.sound rest)
-files_pass w puller server (u ∷ us) taken why new h (inr (inr (inr (v, count, wanted, file, held, much, is, zero, some)))) = subst (Passes puller w) (sym is) (passes_refl puller w h)
-
 pub ends_pass : (w : World) (puller : ℕ) (s : Versions) (why : Option Refusal) (new : World) → IsSoundWorld w → HasVector s → Ends w puller s why new → Passes puller w new
 ends_pass w puller s why new h vector (inl (fits, finish, none)) = passes_finish w puller s new h vector finish
 ends_pass w puller s why new h vector (inr (count, much, some, is)) = subst (Passes puller w) (sym is) (passes_refl puller w h)
-
-goes_on_passes : (d : ℕ) (w mid : World) (first : Option Refusal) (next : World → Option Refusal → World → Type 0) (why : Option Refusal) (new : World) → Passes d w mid
-    → ((why : Option Refusal) (new : World) → next mid why new → Passes d mid new) → GoesOn first mid next why new → Passes d w new
-goes_on_passes d w mid None next why new p more on = passes_trans d w mid new p (more why new on)
-goes_on_passes d w mid (Some refused) next why new p more (same, is) = subst (Passes d w) (sym is) p
-
-pub pulls_pass : (w : World) (puller server taken : ℕ) (why : Option Refusal) (new : World) → IsSoundWorld w → Pulls w puller server taken why new → Passes puller w new
-pulls_pass w puller server taken why new h (sent, page, listed, at_once, fetched, first, mid, send, asked, pages, on, count) =
-    let p = passes_vector w puller server sent h send in
-    let q = pages_pass sent puller server page listed at_once first mid p.sound pages in
-    goes_on_passes puller w mid first _ why new (passes_trans puller w sent mid p q)
-    (λ why new (second, last, files, on).
-    let r = files_pass mid puller server listed fetched second last q.sound files in
-    goes_on_passes puller mid last second _ why new r (λ why new ends. ends_pass last puller (w.at server).known why new r.sound (h.vectors server) ends) on)
-    on

@@ -1,12 +1,13 @@
 -- What the events of a pull do to the scene that an engine stands for.
 use Rattle.std.proofs.Common.{◌≡◌, ◌≢◌, ◌<◌, ◌≤◌, ◌+◌, ◌-◌, ◌^◌, ◌⊎◌, ℕ, zero, suc, Bool, true, false, leb, List, [], ◌∷◌, length, set, refl, sym, ap, ◌∙◌, subst, arith, inl, inr, Option, Some, None, Result, Ok, Err, MatchOption, IsTrue, ◌↔◌}
-use Rattle.std.specs.Prelude.{find, slice_get}
+use Rattle.std.specs.Prelude.{find, if◌then◌else◌, slice_get}
 use Rattle.std.proofs.lemmas.List.{length-map}
 use Rattle.std.proofs.lemmas.Bool.Decides.{nat_tests}
 use Rattle.std.proofs.lemmas.Option.{slice_get_within}
 use Rattle.frs_base.specs.Identifiers.{database_of}
 use Rattle.frs_base.specs.Options.{In}
 use Rattle.frs_base.specs.Versions.{same_uid}
+use Rattle.frs_base.specs.declared.version.Uid.{Uid}
 use Rattle.version_vector.specs.declared.interval.Interval.{Interval}
 use Rattle.win_order.specs.Order.{Beats}
 use Rattle.win_order.specs.declared.update.Update.{Update}
@@ -14,7 +15,11 @@ use Rattle.pinned_pages.specs.declared.answer.FileAnswer.{FileAnswer}
 use Rattle.pinned_pages.specs.declared.answer.FileAnswer.TheVariants as answer
 use Rattle.pinned_pages.specs.declared.pinned.Pinned.{Pinned}
 use Rattle.record_db.specs.Records.{Covered, IsHeld, Versions}
+use Rattle.record_db.specs.Staged.{with_uid}
 use Rattle.record_db.proofs.Best.{one_held}
+use Rattle.name_rules.specs.Tree.{is_file}
+use Rattle.folder_core.specs.Serve.{form_at}
+use Rattle.world_model.proofs.Changing.{at_other}
 use Rattle.record_db.proofs.Lists.{found_held}
 use Rattle.world_model.specs.World.{Member, World}
 use Rattle.world_model.specs.Events.{IsOfFile, IsOfPage, sends_update, sends_vector}
@@ -28,18 +33,20 @@ use Rattle.script_engine.specs.declared.engine.Engine.{Engine}
 use Rattle.script_engine.specs.declared.refusal.Refusal.{Refusal}
 use Rattle.script_engine.specs.declared.refusal.Refusal.TheVariants.{VectorFull}
 use Rattle.script_engine.specs.Engines.{Answered, Stands, local_by_all, machines_of}
-use Rattle.script_engine.specs.Pulls.{CanTake, Ended, FetchedFrom, HasForm, IsPinned, MayFinish, Says, Took}
+use Rattle.script_engine.specs.Pulls.{CanTake, Ended, FetchedFrom, HasForm, IsFormOfGiven, IsPinned, MayFinish, Says, Took, after_taking}
+use Rattle.script_engine.specs.Pulling.{Gives}
 use Rattle.script_engine.specs.Replies.{file_of, pinned_of, taken_of}
 use Rattle.script_engine.specs.declared.names.MemberName.{MemberName}
-use Rattle.script_engine.specs.Scene.{Scene, in_world, numbered}
+use Rattle.script_engine.specs.Scene.{Contents, Scene, in_world, numbered, with_contents}
 use Rattle.script_engine.specs.Standing.{HaveRoom, MachineStands, MachinesStand}
 use Rattle.script_engine.proofs.Adopting.{Adopts, IsOurs, IsTooWide as IsTooWideFor, adopts_at}
-use Rattle.script_engine.proofs.Events.{few_recorded, local_after, stands_on, stands_still}
+use Rattle.script_engine.proofs.Events.{few_recorded, local_after, stands_on, stands_still, stands_with}
 use Rattle.script_engine.proofs.Finishing.{Finishes, IsTooWide as IsTooWideIn, finishes_at}
 use Rattle.script_engine.proofs.Journals.{local_same}
 use Rattle.script_engine.proofs.Pairs.{get_within}
 use Rattle.script_engine.proofs.Spoken.{machine_held}
-use Rattle.script_engine.proofs.Serving.{IsBodyOf, Sends, Waits, files_at, sent_update_stands, sent_vector_stands}
+use Rattle.script_engine.proofs.Gives.{scene_kept}
+use Rattle.script_engine.proofs.Serving.{IsBodyOf, Sends, Waits, body_given, files_at, sent_update_stands, sent_vector_stands}
 
 -- ---- bounds
 
@@ -118,12 +125,17 @@ wants_not e s d m u r h stands found never (held, is_held, better) =
 
 -- ---- an adoption
 
-pub record AdoptsAt (at server : ℕ) (u : Update) (reply : Reply) (old new : Engine) (s : Scene) : Type 0 where
+-- what is given to one member leaves the others as they were
+contents_beside : (contents : Contents) (d : ℕ) (uid : Uid) (given : Option (List ℕ)) (j : ℕ) → j ≢ d → with_contents contents d uid given j ≡ contents j
+contents_beside contents d uid None j n = refl
+contents_beside contents d uid (Some bytes) j n = at_other contents d (with_uid (contents d) uid bytes) j n
+
+pub record AdoptsAt (at server : ℕ) (u : Update) (form : Option (List ℕ)) (reply : Reply) (old new : Engine) (s : Scene) : Type 0 where
   pub outcome : Result (Unit {0}) Refusal
   pub reads : taken_of reply ≡ Some outcome
   pub after : World
   pub took : Took s.world (database_of (at + 1)) server u outcome after
-  pub stands : Stands new (in_world s after)
+  pub stands : (given : Option (List ℕ)) → IsFormOfGiven given form → Stands new (after_taking s (database_of (at + 1)) u given outcome after)
   pub made : local_by_all new ≡ local_by_all old
 
 -- an update that may be sent was recorded
@@ -140,20 +152,21 @@ is_ours machines s server u h room sent =
     record { here = here; set = ours.0; flags = ours.1; few = few_recorded machines s h room; low = omega (arith, below, small) }
 
 pub adopted_on : (at server entry : ℕ) (form : Option (List ℕ)) (u : Update) (reply : Reply) (old new : Engine) (s : Scene) → local_by_all old < 2 ^ 60 → Stands old s → new.names ≡ old.names
-    → Answered at (event.Adopt server entry u form) reply old new → HasForm u form → CanTake s.world (database_of (at + 1)) server u → AdoptsAt at server u reply old new s
+    → Answered at (event.Adopt server entry u form) reply old new → HasForm u form → CanTake s.world (database_of (at + 1)) server u → AdoptsAt at server u form reply old new s
 adopted_on at server entry form u reply old new s room h names a has can =
     by (adopts_at (sends_update s.world server u) (database_of (at + 1)) u form has a.before reply a.after there.scene.world (there.each at a.before a.found) a.sound (is_ours (machines_of old) s server u h.machines room can.sent) (server, inl refl) can.wanted a.answers)
   where
     there : MachinesStand (machines_of old) (in_world s (sends_update s.world server u))
     there = sent_update_stands (machines_of old) s at server u h.machines (within_names old s at a.before h a.found) (can.sent, refl)
 
-    by : Adopts (sends_update s.world server u) (database_of (at + 1)) u a.before reply a.after ⊎ IsTooWideFor (sends_update s.world server u) (database_of (at + 1)) u a.before reply a.after → AdoptsAt at server u reply old new s
+    by : Adopts (sends_update s.world server u) (database_of (at + 1)) u form a.before reply a.after ⊎ IsTooWideFor (sends_update s.world server u) (database_of (at + 1)) u a.before reply a.after → AdoptsAt at server u form reply old new s
     by (inl x) = record {
       outcome = Ok tt;
       reads = ap taken_of x.reply_is;
       after = x.after;
       took = (x.fits, sends_update s.world server u, (can.sent, refl), x.step);
-      stands = stands_on old new (in_world s (sends_update s.world server u)) at a.before a.after x.after (record { names = h.names; formed = h.formed; machines = there }) names a.found a.machines x.goes a.usns;
+      stands = λ given is. stands_with old new (in_world s (sends_update s.world server u)) at a.before a.after x.after (with_contents s.contents (database_of (at + 1)) u.uid given) (record { names = h.names; formed = h.formed; machines = there }) names a.found a.machines x.goes
+          (λ j n. contents_beside s.contents (database_of (at + 1)) u.uid given j n) (x.holds s.contents given is (h.machines.contents at a.before a.found)) a.usns;
       made = same_made old new at a.before a.after a.found a.machines x.volume;
     }
     by (inr x) = record {
@@ -161,17 +174,17 @@ adopted_on at server entry form u reply old new s room h names a has can =
       reads = ap taken_of x.reply_is;
       after = s.world;
       took = (x.count, (can.wanted, x.exceeds), refl, refl);
-      stands = stands_still old new s at a.before a.after h names a.found a.machines x.same;
+      stands = λ given is. stands_still old new s at a.before a.after h names a.found a.machines x.same;
       made = same_made old new at a.before a.after a.found a.machines (ap (λ (y : Machine). y.volume) x.same);
     }
 
 -- ---- a file
 
 -- what an answer says
-abbrev pub Answers : World → ℕ → Update → FileAnswer → Type 0
-Answers w d u (answer.Found at v body) = (v.uid ≡ u.uid) × IsOfFile w d v × IsBodyOf v body
-Answers w d u (answer.NotYet usn) = FetchedFrom w d u.uid (Err usn)
-Answers w d u answer.NoRecord = ⊥
+abbrev pub Answers : Scene → ℕ → Update → FileAnswer → Type 0
+Answers s d u (answer.Found at v body) = (v.uid ≡ u.uid) × IsOfFile s.world d v × IsBodyOf v body × ((given : Option (List ℕ)) × Gives s d v given × IsFormOfGiven given body)
+Answers s d u (answer.NotYet usn) = FetchedFrom s d u.uid (Err usn)
+Answers s d u answer.NoRecord = ⊥
 
 -- a form whose length has 64 bits is one of a local file
 pub has_form : (u : Update) (body given : Option (List ℕ)) → IsBodyOf u body → MatchOption body (Unit {0}) (λ form. length form < 2 ^ 64) → given ≡ body → HasForm u given
@@ -183,7 +196,7 @@ has_form u body given h short same file =
 pub record FetchesAt (at : ℕ) (u : Update) (reply : Reply) (old new : Engine) (s : Scene) : Type 0 where
   pub outcome : FileAnswer
   pub reads : file_of reply ≡ Some outcome
-  pub answers : Answers s.world (database_of (at + 1)) u outcome
+  pub answers : Answers s (database_of (at + 1)) u outcome
   pub stands : Stands new s
   pub made : local_by_all new ≡ local_by_all old
 
@@ -193,7 +206,7 @@ fetched_on forms at u reply old new s h names a covered =
     let (came, same) = files_at forms s.world (database_of (at + 1)) u a.place a.before reply a.after (h.machines.each at a.before a.found) covered a.answers in
     by came same
   where
-    by : Waits s.world (database_of (at + 1)) u.uid reply ⊎ Sends s.world (database_of (at + 1)) u.uid a.place reply → a.after ≡ a.before → FetchesAt at u reply old new s
+    by : Waits s.world (database_of (at + 1)) u.uid reply ⊎ Sends s.world (database_of (at + 1)) a.before u.uid a.place reply → a.after ≡ a.before → FetchesAt at u reply old new s
     by (inl x) same = record {
       outcome = answer.NotYet x.usn;
       reads = ap file_of x.reply_is;
@@ -204,7 +217,7 @@ fetched_on forms at u reply old new s h names a covered =
     by (inr x) same = record {
       outcome = answer.Found a.place x.update x.body;
       reads = ap file_of x.reply_is;
-      answers = (x.file, x.of_file, x.form);
+      answers = (x.file, x.of_file, x.form, body_given s (database_of (at + 1)) a.before x.update x.body (scene_kept s h.machines.scene) (h.machines.each at a.before a.found) (h.machines.contents at a.before a.found) x.of_file (x.body_is ∙ ap (λ uid. if is_file x.update then form_at a.before uid else None) (sym x.file)));
       stands = stands_still old new s at a.before a.after h names a.found a.machines same;
       made = same_made old new at a.before a.after a.found a.machines (ap (λ (y : Machine). y.volume) same);
     }
@@ -230,7 +243,7 @@ finished_on at server entry versions sent seen reply old new s h names a may =
       reads = ap taken_of x.reply_is;
       after = x.after;
       ended = inl (x.fits, x.step, refl);
-      stands = stands_on old new s at a.before a.after x.after h names a.found a.machines x.goes a.usns;
+      stands = stands_on old new s at a.before a.after x.after h names a.found a.machines x.goes x.keeps a.usns;
       made = same_made old new at a.before a.after a.found a.machines x.volume;
     }
     by (inr x) = record {

@@ -8,7 +8,8 @@ use Rattle.world_model.specs.Rounds.{GoesOnBy, IsPage, IsRound, Round, TreatsAll
 use Rattle.world_model.proofs.Facts.{none_some, true_false}
 use Rattle.script_engine.specs.declared.refusal.Refusal.{Refusal}
 use Rattle.script_engine.specs.Laws.{PagesAreAsked, PullsAreRounds, begun_round}
-use Rattle.script_engine.specs.Pulling.{Ends, GoesOn, IsAsked, TakesFiles, TakesPages}
+use Rattle.script_engine.specs.Pulling.{Ends, GoesOn, IsAsked, Rest, TakesFiles, TakesPages, with_given}
+use Rattle.script_engine.specs.Scene.{Scene, in_world}
 
 -- ---- pages
 
@@ -44,17 +45,17 @@ abbrev asking_none : Versions → List Update → Round
 asking_none versions us = record { versions = versions; rest = λ g. false; listed = us }
 
 -- the files that a pull takes a round fetches
-fetch_all : (versions : Versions) (w : World) (puller server : ℕ) (us : List Update) (taken : ℕ) (new : World) → TakesFiles w puller server us taken None new
-    → (acts : ℕ) × GoesOnBy acts w puller server (asking_none versions us) new (asking_none versions [])
-fetch_all versions w puller server [] taken new (t, y, is) = (0, (is, refl))
-fetch_all versions w puller server (u ∷ us) taken new (inl (n, rest)) =
-    let (acts, more) = fetch_all versions w puller server us taken new rest in
-    (suc acts, (w, asking_none versions us, inr (u, us, refl, refl, inl (n, refl)), more))
-fetch_all versions w puller server (u ∷ us) taken new (inr (inl (wanted, usn, waits, t, why, is))) = absurd (none_some _ why)
-fetch_all versions w puller server (u ∷ us) taken new (inr (inr (inl (v, mid, others, wanted, same, of, (fits, between, sent, adopted), rest, t)))) =
-    let (acts, more) = fetch_all versions mid puller server us others new rest in
+fetch_all : (versions : Versions) (s : Scene) (puller server : ℕ) (us : List Update) (taken : ℕ) (new : Scene) → TakesFiles s puller server us taken None new
+    → (acts : ℕ) × GoesOnBy acts s.world puller server (asking_none versions us) new.world (asking_none versions [])
+fetch_all versions s puller server [] taken new (t, y, is) = (0, (ap (λ (z : Scene). z.world) is, refl))
+fetch_all versions s puller server (u ∷ us) taken new (inl (n, rest)) =
+    let (acts, more) = fetch_all versions s puller server us taken new rest in
+    (suc acts, (s.world, asking_none versions us, inr (u, us, refl, refl, inl (n, refl)), more))
+fetch_all versions s puller server (u ∷ us) taken new (inr (inl (wanted, usn, waits, t, why, is))) = absurd (none_some _ why)
+fetch_all versions s puller server (u ∷ us) taken new (inr (inr (inl (v, given, mid, others, wanted, same, of, gives, (fits, between, sent, adopted), rest, t)))) =
+    let (acts, more) = fetch_all versions (with_given s puller v given mid) puller server us others new rest in
     (suc acts, (mid, asking_none versions us, inr (u, us, refl, refl, inr (v, between, of.0, same, sent, adopted)), more))
-fetch_all versions w puller server (u ∷ us) taken new (inr (inr (inr (v, count, wanted, same, of, much, is, t, why)))) = absurd (none_some _ why)
+fetch_all versions s puller server (u ∷ us) taken new (inr (inr (inr (v, count, wanted, same, of, much, is, t, why)))) = absurd (none_some _ why)
 
 -- ---- the whole
 
@@ -93,30 +94,31 @@ pages_are_asked w puller server page order = (to, back)
     }
 
 pub pulls_are_rounds : PullsAreRounds
-pulls_are_rounds w puller server taken new (sent, page, listed, at_once, fetched, first, mid, send, asked, pages, on, t) = paged first pages on
+pulls_are_rounds s puller server taken new (sent, page, listed, at_once, fetched, first, mid, send, asked, pages, on, t) = paged first pages on
   where
+    w : World
+    w = s.world
+
     known : Versions
     known = (w.at server).known
 
-    Ending : World → Option Refusal → World → Type 0
-    Ending filed why new = Ends filed puller (w.at server).known why new
-
-    After : World → Option Refusal → World → Type 0
-    After paged why new = (second : Option Refusal) × (last : World) × TakesFiles paged puller server listed fetched second last × GoesOn second last Ending why new
+    Ending : Scene → Option Refusal → Scene → Type 0
+    Ending filed why new = (z : World) × Ends filed.world puller known why z × (new ≡ in_world filed z)
 
     is_page : IsPage sent (begun_round w puller server) page (λ g. false)
     is_page = subst (λ z. IsPage z (begun_round w puller server) page (λ g. false)) (sym send) ((pages_are_asked w puller server page asked.ordered).1 asked)
 
-    filed : (second : Option Refusal) (last : World) → TakesPages sent puller server page listed at_once None mid → TakesFiles mid puller server listed fetched second last
-        → GoesOn second last Ending None new → IsRound w puller server new
+    filed : (second : Option Refusal) (last : Scene) → TakesPages sent puller server page listed at_once None mid → TakesFiles (in_world s mid) puller server listed fetched second last
+        → GoesOn second last Ending None new → IsRound w puller server new.world
     filed (Some refused) last pages files (why, is) = absurd (none_some refused why)
-    filed None last pages files (inr (count, exceeds, why, is)) = absurd (none_some _ why)
-    filed None last pages files (inl (fits, step, why)) =
-        let (acts, fetches) = fetch_all known mid puller server listed fetched last files in (
+    filed None last pages files (z, inr (count, exceeds, why, same), is) = absurd (none_some _ why)
+    filed None last pages files (z, inl (fits, step, why), is) =
+        let (acts, fetches) = fetch_all known (in_world s mid) puller server listed fetched last files in
+        subst (λ (x : Scene). IsRound w puller server x.world) (sym is) (
           sent,
           begun_round w puller server,
           suc acts,
-          last,
+          last.world,
           asking_none known [],
           (send, refl),
           (mid, asking_none known listed, inl (page, is_page, treats_all sent puller server page listed at_once mid pages [], refl), fetches),
@@ -124,6 +126,6 @@ pulls_are_rounds w puller server taken new (sent, page, listed, at_once, fetched
           step,
         )
 
-    paged : (first : Option Refusal) → TakesPages sent puller server page listed at_once first mid → GoesOn first mid After None new → IsRound w puller server new
+    paged : (first : Option Refusal) → TakesPages sent puller server page listed at_once first mid → GoesOn first (in_world s mid) (Rest puller server known listed fetched) None new → IsRound w puller server new.world
     paged (Some refused) pages (why, is) = absurd (none_some refused why)
     paged None pages (second, last, files, ends) = filed second last pages files ends

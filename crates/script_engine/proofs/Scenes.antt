@@ -21,11 +21,12 @@ use Rattle.world_model.specs.World.{Member, World, with_member}
 use Rattle.world_model.specs.Events.{Step, Local as LocalEvent}
 use Rattle.world_model.specs.Invariant.{Invariant, IsSound}
 use Rattle.world_model.proofs.Changing.{at_each, at_other}
+use Rattle.world_model.proofs.Facts.{none_some}
 use Rattle.world_model.proofs.Fresh.{fresh_sound}
 use Rattle.world_model.proofs.Sums.{member_sums}
 use Rattle.world_model.proofs.Versions.{same_consumed}
 use Rattle.script_engine.specs.Scene.{Scene, IsNamed, in_world, with_name}
-use Rattle.script_engine.specs.Sound.{AreLists, IsNobodys, IsSoundScene}
+use Rattle.script_engine.specs.Sound.{AreLists, AreStaged, IsNobodys, IsSoundScene}
 use Rattle.script_engine.specs.declared.refusal.Refusal.{Refusal}
 use Rattle.script_engine.specs.declared.refusal.Refusal.TheVariants.{Local}
 use Rattle.script_engine.specs.Refusals.{first_refusal}
@@ -33,7 +34,12 @@ use Rattle.script_engine.specs.Text.{Acts, Changes, Does, IsRefused, Operates, f
 use Rattle.script_engine.specs.declared.consumed.Consumed.{Consumed}
 use Rattle.script_engine.specs.Consuming.{ConsumesAll}
 use Rattle.script_engine.specs.Scripts.{FreshScenesAreSound, LinesKeepScenesSound, RunsKeepScenesSound}
-use Rattle.script_engine.proofs.Passing.{Passes, consumes_all_passes, consumes_next_passes, passes_local, passes_trans, pulls_pass}
+use Rattle.script_engine.proofs.Drained.{drains_pass, drains_stage}
+use Rattle.script_engine.proofs.Gives.{scene_kept}
+use Rattle.script_engine.proofs.Installed.{installs_pass, installs_stage}
+use Rattle.script_engine.proofs.Leading.{Leads, leads_by, leads_sound, leads_trans}
+use Rattle.script_engine.proofs.Passing.{consumes_all_passes, consumes_next_passes, passes_local}
+use Rattle.script_engine.proofs.Pulled.{consumes_all_unstages, consumes_next_unstages, local_unstages, pulls_lead}
 use Rattle.script_engine.proofs.Vectors.{HasVector, no_versions}
 use Rattle.script_engine.proofs.Volumes.{fresh_lists}
 
@@ -47,11 +53,8 @@ pub named_somebodys : (s : Scene) (name : List ℕ) (d j : ℕ) → IsNamed s na
 named_somebodys s name d j named nobody e = let (k, within, is) = named_place s name d named in nobody k within (e ∙ is)
 
 -- a scene whose world went on at a named member
-pub scene_after : (s : Scene) (name : List ℕ) (d : ℕ) (w : World) → IsSoundScene s → IsNamed s name d → Passes d s.world w → IsSoundScene (in_world s w)
-scene_after s name d w h named p = record {
-  world = p.sound;
-  unnamed = λ j nobody. let (kind, is) = h.unnamed j nobody in (kind, sym (p.others j (named_somebodys s name d j named nobody)) ∙ is);
-}
+pub scene_after : (s new : Scene) (name : List ℕ) (d : ℕ) → IsSoundScene s → IsNamed s name d → Leads d s new → IsSoundScene new
+scene_after s new name d h named l = leads_sound d s new h l (λ j nobody. named_somebodys s name d j named nobody)
 
 -- ---- a new member
 
@@ -111,6 +114,7 @@ sound_with_name s name kind h =
         volumes = at_each HasVolume s.world.at d x (h.world.volumes d) (λ j n. h.world.volumes j);
         vectors = at_each (λ j (y : Member). HasVector y.known) s.world.at d x (h.world.vectors d) (λ j n. h.world.vectors j);
       };
+      staged = at_each (λ j (y : Member). AreStaged y (s.contents j)) s.world.at d x (h.staged d) (λ j n. h.staged j);
       unnamed = λ j nobody.
           let apart : j ≢ d = nobody (length s.names) (omega (arith, longer)) in
           let (old, is) = h.unnamed j (λ k within. nobody k (omega (arith, longer, within))) in
@@ -121,6 +125,7 @@ sound_with_name s name kind h =
 
 pub fresh_scene_sound : FreshScenesAreSound
 fresh_scene_sound = record {
+  staged = λ d uid sum e. absurd (none_some sum e);
   world = record { invariant = fresh_sound (λ d. Plain); volumes = λ d. (fresh_state d, fresh_lists d); vectors = λ d. no_versions };
   unnamed = λ d nobody. (Plain, refl);
 }
@@ -138,7 +143,7 @@ acts_or_not s line text new does = by (first_refusal s line) does
 -- what holds of the scene, and of every scene whose world went on at a named member, holds of the new one
 pub record Follows (s : Scene) (P : Scene → Type 0) : Type 0 where
   pub same : P s
-  pub further : (name : List ℕ) (d : ℕ) (w : World) → IsNamed s name d → Passes d s.world w → P (in_world s w)
+  pub further : (name : List ℕ) (d : ℕ) (new : Scene) → IsNamed s name d → Leads d s new → P new
   pub named : (name : List ℕ) (kind : MemberKind) → P (with_name s name kind)
 
 operated_follows : (s : Scene) (P : Scene → Type 0) (name : List ℕ) (d : ℕ) (operation : LocalOp) (text : List ℕ) (new : Scene) → IsSoundScene s → Follows s P → IsNamed s name d → Operates s d operation text new → P new
@@ -146,7 +151,7 @@ operated_follows s P name d operation text new h f named (answer, resolved, acts
   where
     by : (answer : Result VolCmd Refused)
         → MatchResult answer (λ cmd. (w : World) × Step s.world d (LocalEvent cmd) w × (text ≡ usn_text (s.world.at d).volume.next_usn) × (new ≡ in_world s w)) (λ why. IsRefused s (Local why) text new) → P new
-    by (Ok cmd) (w, step, said, is) = subst P (sym is) (f.further name d w named (passes_local s.world d cmd w h.world step))
+    by (Ok cmd) (w, step, said, is) = subst P (sym is) (f.further name d (in_world s w) named (leads_by d s w (passes_local s.world d cmd w h.world step) (local_unstages s.world d cmd w step)))
     by (Err why) (said, is) = subst P (sym is) f.same
 
 changed_follows : (s : Scene) (P : Scene → Type 0) (name : List ℕ) (d : ℕ) (operation : LocalOp) (moment : ℕ) (text : List ℕ) (new : Scene) → moment < 2 ^ 61 → IsSoundScene s → Follows s P → IsNamed s name d
@@ -160,7 +165,9 @@ changed_follows s P name d operation moment text new early h f named (answer, re
         (λ why. IsRefused s (Local why) text new) → P new
     by (Ok cmd) (put, w, done, why, step, consumed, said, is) =
         let p = passes_local s.world d cmd put h.world step in
-        subst P (sym is) (f.further name d w named (passes_trans d s.world put w p (consumes_all_passes put d moment done why w early p.sound consumed)))
+        let l = leads_by d s put p (local_unstages s.world d cmd put step) in
+        let m = leads_by d (in_world s put) w (consumes_all_passes put d moment done why w early p.sound consumed) (consumes_all_unstages put d moment done why w consumed) in
+        subst P (sym is) (f.further name d (in_world s w) named (leads_trans d s (in_world s put) (in_world s w) l m))
     by (Err why) (said, is) = subst P (sym is) f.same
 
 acts_follow : (s : Scene) (P : Scene → Type 0) (line : Line) (text : List ℕ) (new : Scene) → IsSoundScene s → IsLine line → Follows s P → Acts s line text new → P new
@@ -171,10 +178,13 @@ acts_follow s P (lines.Mkdir name path) text new h form f (d, named, acts) = ope
 acts_follow s P (lines.Move name from to) text new h form f (d, named, acts) = operated_follows s P name d (op.Move from to) text new h f named acts
 acts_follow s P (lines.Remove name path) text new h form f (d, named, acts) = operated_follows s P name d (op.Remove path) text new h f named acts
 acts_follow s P (lines.Consume name moment) text new h form f (d, named, (done, why, w, next, said, is)) =
-    subst P (sym is) (f.further name d w named (consumes_next_passes s.world d moment done why w form.1 h.world next))
+    subst P (sym is) (f.further name d (in_world s w) named (leads_by d s w (consumes_next_passes s.world d moment done why w form.1 h.world next) (consumes_next_unstages s.world d moment done why w next)))
 acts_follow s P (lines.Change name path moment) text new h form f (d, named, acts) = changed_follows s P name d (op.Put path []) moment text new form.2 h f named acts
-acts_follow s P (lines.Pull name other) text new h form f (puller, server, taken, why, w, named, at, pulls, said, is) =
-    subst P (sym is) (f.further name puller w named (pulls_pass s.world puller server taken why w h.world pulls))
+acts_follow s P (lines.Pull name other) text new h form f (puller, server, taken, why, named, there, pulls, said) = f.further name puller new named (pulls_lead s puller server taken why new (scene_kept s h) pulls)
+acts_follow s P (lines.Install name) text new h form f (d, named, outcome, w, installs, said, is) =
+    subst P (sym is) (f.further name d (in_world s w) named (leads_by d s w (installs_pass s d outcome w h.world installs) (installs_stage s d outcome w h.world installs)))
+acts_follow s P (lines.Drain name) text new h form f (d, named, steps, why, w, drains, said, is) =
+    subst P (sym is) (f.further name d (in_world s w) named (leads_by d s w (drains_pass s d steps why w h.world drains) (drains_stage s d steps why w h.world drains)))
 acts_follow s P (lines.Show name) text new h form f (d, named, shows, is) = subst P (sym is) f.same
 acts_follow s P (lines.Tree name) text new h form f (d, named, shows, is) = subst P (sym is) f.same
 acts_follow s P (lines.Sums name) text new h form f (d, named, shows, is) = subst P (sym is) f.same
@@ -191,6 +201,8 @@ left_follows s P (lines.Remove name path) f = f.same
 left_follows s P (lines.Consume name moment) f = f.same
 left_follows s P (lines.Change name path moment) f = f.same
 left_follows s P (lines.Pull name other) f = f.same
+left_follows s P (lines.Install name) f = f.same
+left_follows s P (lines.Drain name) f = f.same
 left_follows s P (lines.Show name) f = f.same
 left_follows s P (lines.Tree name) f = f.same
 left_follows s P (lines.Sums name) f = f.same
@@ -202,7 +214,7 @@ does_follow s P line text new h form f does = elim (acts_or_not s line text new 
 pub line_keeps : LinesKeepScenesSound
 line_keeps s line text new h form does = does_follow s IsSoundScene line text new h form (record {
   same = h;
-  further = λ name d w named p. scene_after s name d w h named p;
+  further = λ name d new named l. scene_after s new name d h named l;
   named = λ name kind. sound_with_name s name kind h;
 }) does
 

@@ -28,7 +28,7 @@ use Rattle.script_engine.specs.Pulls.{PullEnds}
 use Rattle.script_engine.specs.Refusals.{first_refusal, refused_text, unless_named}
 use Rattle.script_engine.specs.Scene.{IsNamed, Scene, in_world, numbered, place_of, with_name}
 use Rattle.script_engine.specs.Sound.{IsNobodys}
-use Rattle.script_engine.specs.Standing.{MachineStands, MachinesStand, recorded_in}
+use Rattle.script_engine.specs.Standing.{HoldsContents, MachineStands, MachinesStand, recorded_in}
 use Rattle.script_engine.specs.Text.{Acts, Does, IsRefused, left_by}
 use Rattle.script_engine.proofs.Events.{ok_by}
 use Rattle.script_engine.proofs.Scenes.{sound_with_name}
@@ -107,6 +107,9 @@ fresh_stands all x d kind before is keeps = subst (λ y. MachineStands all (reco
   volume = (fresh_lists d).stands;
 })
 
+none_form : (form : List ℕ) → None ≡ Some form → ⊥
+none_form form e = cc
+
 -- machines that stand for a scene go on to with one more
 pub machines_more : (machines : List Machine) (s : Scene) (name : List ℕ) (kind : MemberKind) → MachinesStand machines s → IsSoundMachine (fresh_machine kind (database_of (length s.names + 1)) content_set)
     → MachinesStand (machines ++ fresh_machine kind (database_of (length s.names + 1)) content_set ∷ []) (with_name s name kind)
@@ -115,6 +118,7 @@ machines_more machines s name kind h keeps = record {
       let b = length-append s.names (name ∷ []) in
       let many = h.many in omega (arith, a, b, many);
   each = λ k m found. elim (push_at machines (fresh_machine kind (database_of (length s.names + 1)) content_set) k m found) [ inl old ↦ before k m old | inr now ↦ last k m now.0 now.1 ];
+  contents = λ k m found. elim (push_at machines (fresh_machine kind (database_of (length s.names + 1)) content_set) k m found) [ inl old ↦ h.contents k m old | inr now ↦ subst (HoldsContents (s.contents (database_of (k + 1)))) (sym now.1) (λ uid form e. absurd (none_form form e)) ];
   ours = h.ours;
   usns = λ k m found. elim (push_at machines (fresh_machine kind (database_of (length s.names + 1)) content_set) k m found) [ inl old ↦ h.usns k m old | inr now ↦ subst (λ (z : Machine). z.volume.next_usn < 2 ^ 64) (sym now.1) (omega arith) ];
   counted = let push = sum_by_push recorded_in machines (fresh_machine kind (database_of (length s.names + 1)) content_set) in let counted = h.counted in omega (arith, push, counted);

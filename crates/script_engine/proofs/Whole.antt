@@ -24,7 +24,7 @@ use Rattle.script_engine.specs.declared.refusal.Refusal.TheVariants.{NotYet, Vec
 use Rattle.script_engine.specs.Engines.{Stands}
 use Rattle.script_engine.specs.Named.{HasName}
 use Rattle.script_engine.specs.Scene.{Scene, in_world}
-use Rattle.script_engine.specs.Pulling.{Ends, IsAsked, Pulls, TakesFiles, TakesPages}
+use Rattle.script_engine.specs.Pulling.{Ends, IsAsked, Pulls, TakesFiles, TakesPages, with_given}
 use Rattle.script_engine.specs.Pulls.{AreCovered, ArePages, AreTreated, FilesTaken, IsPinned, MayFinish, PagesTaken, PullEnds, unknown}
 use Rattle.script_engine.specs.Widening.{IsVectorOf}
 use Rattle.pinned_pages.specs.Pages.{IsPage}
@@ -62,23 +62,23 @@ may_finish w p e vector page listed paged filed made is asked treated first held
 
 -- ---- the outcomes
 
-pub cut_in_pages : (w : World) (p e : ℕ) (page : List Update) (why : Refusal) (new : World) → IsAsked w p e page → PagesTaken (sends_vector w e) p e page (Err why) new → PullEnds w p e (Err why) new
-cut_in_pages w p e page why new asked (listed, taken, pages) = (taken + 0, (sends_vector w e, page, listed, taken, 0, Some why, new, refl, asked, pages, (refl, refl), refl))
+pub cut_in_pages : (s : Scene) (p e : ℕ) (page : List Update) (why : Refusal) (new : World) → IsAsked s.world p e page → PagesTaken (sends_vector s.world e) p e page (Err why) new → PullEnds s p e (Err why) (in_world s new)
+cut_in_pages s p e page why new asked (listed, taken, pages) = (taken + 0, (sends_vector s.world e, page, listed, taken, 0, Some why, new, refl, asked, pages, (refl, refl), refl))
 
-pub cut_in_files : (w : World) (p e : ℕ) (page : List Update) (paged : Paged) (mid : World) (why : Refusal) (new : World) → IsAsked w p e page → PagesTaken (sends_vector w e) p e page (Ok paged) mid
-    → FilesTaken mid p e paged.listed.items (Err why) new → PullEnds w p e (Err why) new
-cut_in_files w p e page paged mid why new asked (pages, treated, grows) (fetched, files) =
-    (paged.taken + fetched, (sends_vector w e, page, paged.listed.items, paged.taken, fetched, None, mid, refl, asked, pages, (Some why, new, files, (refl, refl)), refl))
+pub cut_in_files : (s : Scene) (p e : ℕ) (page : List Update) (paged : Paged) (mid : World) (why : Refusal) (new : Scene) → IsAsked s.world p e page → PagesTaken (sends_vector s.world e) p e page (Ok paged) mid
+    → FilesTaken (in_world s mid) p e paged.listed.items (Err why) new → PullEnds s p e (Err why) new
+cut_in_files s p e page paged mid why new asked (pages, treated, grows) (fetched, files) =
+    (paged.taken + fetched, (sends_vector s.world e, page, paged.listed.items, paged.taken, fetched, None, mid, refl, asked, pages, (Some why, new, files, (refl, refl)), refl))
 
-pub all_taken : (w : World) (p e : ℕ) (page : List Update) (paged : Paged) (mid : World) (fetched : ℕ) (filed : World) (new : World) → IsAsked w p e page → PagesTaken (sends_vector w e) p e page (Ok paged) mid
-    → FilesTaken mid p e paged.listed.items (Ok fetched) filed → Ends filed p (w.at e).known None new → PullEnds w p e (Ok (paged.taken + fetched)) new
-all_taken w p e page paged mid fetched filed new asked (pages, treated, grows) (files, held, more) ends =
-    (sends_vector w e, page, paged.listed.items, paged.taken, fetched, None, mid, refl, asked, pages, (None, filed, files, ends), refl)
+pub all_taken : (s : Scene) (p e : ℕ) (page : List Update) (paged : Paged) (mid : World) (fetched : ℕ) (filed : Scene) (new : World) → IsAsked s.world p e page → PagesTaken (sends_vector s.world e) p e page (Ok paged) mid
+    → FilesTaken (in_world s mid) p e paged.listed.items (Ok fetched) filed → Ends filed.world p (s.world.at e).known None new → PullEnds s p e (Ok (paged.taken + fetched)) (in_world filed new)
+all_taken s p e page paged mid fetched filed new asked (pages, treated, grows) (files, held, more) ends =
+    (sends_vector s.world e, page, paged.listed.items, paged.taken, fetched, None, mid, refl, asked, pages, (None, filed, files, (new, ends, refl)), refl)
 
-pub cut_at_end : (w : World) (p e : ℕ) (page : List Update) (paged : Paged) (mid : World) (fetched : ℕ) (filed : World) (why : Refusal) (new : World) → IsAsked w p e page → PagesTaken (sends_vector w e) p e page (Ok paged) mid
-    → FilesTaken mid p e paged.listed.items (Ok fetched) filed → Ends filed p (w.at e).known (Some why) new → PullEnds w p e (Err why) new
-cut_at_end w p e page paged mid fetched filed why new asked (pages, treated, grows) (files, held, more) ends =
-    (paged.taken + fetched, (sends_vector w e, page, paged.listed.items, paged.taken, fetched, None, mid, refl, asked, pages, (None, filed, files, ends), refl))
+pub cut_at_end : (s : Scene) (p e : ℕ) (page : List Update) (paged : Paged) (mid : World) (fetched : ℕ) (filed : Scene) (why : Refusal) (new : World) → IsAsked s.world p e page → PagesTaken (sends_vector s.world e) p e page (Ok paged) mid
+    → FilesTaken (in_world s mid) p e paged.listed.items (Ok fetched) filed → Ends filed.world p (s.world.at e).known (Some why) new → PullEnds s p e (Err why) (in_world filed new)
+cut_at_end s p e page paged mid fetched filed why new asked (pages, treated, grows) (files, held, more) ends =
+    (paged.taken + fetched, (sends_vector s.world e, page, paged.listed.items, paged.taken, fetched, None, mid, refl, asked, pages, (None, filed, files, (new, ends, refl)), refl))
 
 -- ---- a refusal of a pull has no name
 
@@ -101,21 +101,22 @@ pages_nameless w p e (u ∷ us) listed taken why new (inr (inl (b, f, more, is, 
 pages_nameless w p e (u ∷ us) listed taken why new (inr (inr (inl (f, mid, others, takes, t, is)))) = pages_nameless mid p e us listed others why new t
 pages_nameless w p e (u ∷ us) listed taken why new (inr (inr (inr (f, count, much, a, b, c, is)))) = full count why is
 
-files_nameless : (w : World) (p e : ℕ) (us : List Update) (taken : ℕ) (why : Option Refusal) (new : World) → TakesFiles w p e us taken why new → Nameless why
-files_nameless w p e [] taken why new (a, none, b) = none_named why none
-files_nameless w p e (u ∷ us) taken why new (inl (n, t)) = files_nameless w p e us taken why new t
-files_nameless w p e (u ∷ us) taken why new (inr (inl (b, usn, last, a, is, c))) = waits usn why is
-files_nameless w p e (u ∷ us) taken why new (inr (inr (inl (v, mid, others, b, s, o, takes, t, is)))) = files_nameless mid p e us others why new t
-files_nameless w p e (u ∷ us) taken why new (inr (inr (inr (v, count, b, s, o, much, a, c, is)))) = full count why is
+files_nameless : (s : Scene) (p e : ℕ) (us : List Update) (taken : ℕ) (why : Option Refusal) (new : Scene) → TakesFiles s p e us taken why new → Nameless why
+files_nameless s p e [] taken why new (a, none, b) = none_named why none
+files_nameless s p e (u ∷ us) taken why new (inl (n, t)) = files_nameless s p e us taken why new t
+files_nameless s p e (u ∷ us) taken why new (inr (inl (b, usn, last, a, is, c))) = waits usn why is
+files_nameless s p e (u ∷ us) taken why new (inr (inr (inl (v, given, mid, others, b, file, o, gives, takes, t, is)))) = files_nameless (with_given s p v given mid) p e us others why new t
+files_nameless s p e (u ∷ us) taken why new (inr (inr (inr (v, count, b, file, o, much, a, c, is)))) = full count why is
 
 ends_nameless : (w : World) (p : ℕ) (s : Versions) (why : Option Refusal) (new : World) → Ends w p s why new → Nameless why
 ends_nameless w p s why new (inl (a, b, none)) = none_named why none
 ends_nameless w p s why new (inr (count, a, is, b)) = full count why is
 
-pub pull_nameless : (w : World) (p e taken : ℕ) (why : Refusal) (new : World) → Pulls w p e taken (Some why) new → HasName why
-pull_nameless w p e taken why new (sent, page, listed, at_once, fetched, Some first, mid, step, asked, pages, (is, same), count) = pages_nameless sent p e page listed at_once (Some first) mid pages why (sym is)
-pull_nameless w p e taken why new (sent, page, listed, at_once, fetched, None, mid, step, asked, pages, (Some second, last, files, (is, same)), count) = files_nameless mid p e listed fetched (Some second) last files why (sym is)
-pull_nameless w p e taken why new (sent, page, listed, at_once, fetched, None, mid, step, asked, pages, (None, last, files, ends), count) = ends_nameless last p (w.at e).known (Some why) new ends why refl
+pub pull_nameless : (s : Scene) (p e taken : ℕ) (why : Refusal) (new : Scene) → Pulls s p e taken (Some why) new → HasName why
+pull_nameless s p e taken why new (sent, page, listed, at_once, fetched, Some first, mid, step, asked, pages, (is, same), count) = pages_nameless sent p e page listed at_once (Some first) mid pages why (sym is)
+pull_nameless s p e taken why new (sent, page, listed, at_once, fetched, None, mid, step, asked, pages, (Some second, last, files, (is, same)), count) =
+    files_nameless (in_world s mid) p e listed fetched (Some second) last files why (sym is)
+pull_nameless s p e taken why new (sent, page, listed, at_once, fetched, None, mid, step, asked, pages, (None, last, files, (w, ends, is)), count) = ends_nameless last.world p (s.world.at e).known (Some why) w ends why refl
 
 -- ---- of an engine
 
