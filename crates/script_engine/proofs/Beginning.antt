@@ -6,6 +6,7 @@ use Rattle.win_order.specs.declared.update.Update.{Update}
 use Rattle.vol_state.specs.declared.operation.LocalOp.{LocalOp}
 use Rattle.vol_state.specs.declared.operation.Refused.{Refused}
 use Rattle.record_db.specs.Records.{Versions}
+use Rattle.name_rules.specs.declared.step.Step.{Step as InstallStep}
 use Rattle.world_model.specs.World.{World}
 use Rattle.world_model.specs.Events.{sends_vector}
 use Rattle.world_model.specs.Invariant.{VersionsAreMade}
@@ -16,9 +17,10 @@ use Rattle.script_engine.specs.declared.engine.Engine.{Engine}
 use Rattle.script_engine.specs.declared.refusal.Refusal.{Refusal}
 use Rattle.script_engine.specs.Begun.{Begins, BeginsAt, BeginsChange, BeginsFiles, BeginsPages, BeginsPull, BeginsRest, ConsumesSome, OperatesOnce}
 use Rattle.script_engine.specs.Consuming.{ConsumesOne}
-use Rattle.script_engine.specs.Engines.{ConsumedNext, Operated, Stands, machines_of}
+use Rattle.script_engine.specs.Engines.{ConsumedNext, DrainedBy, Operated, Stands, machines_of}
 use Rattle.script_engine.specs.Named.{AreNamed}
-use Rattle.script_engine.specs.Pulling.{Ends, GoesOn, Pulls, TakesFiles, TakesPages}
+use Rattle.script_engine.specs.Installing.{Drains, Installs, InstallsSome}
+use Rattle.script_engine.specs.Pulling.{Ends, Pulls, Rest, TakesFiles, TakesPages, with_given}
 use Rattle.script_engine.specs.Pulls.{PullEnds}
 use Rattle.script_engine.specs.Scene.{IsNamed, Scene, in_world}
 use Rattle.script_engine.specs.Standing.{MachinesStand}
@@ -79,40 +81,60 @@ pages_begun w p e (u ∷ us) listed taken why new (inr (inr (inl (folder, mid, o
     let (n, first, count, begun) = pages_begun mid p e us listed others why new t in (suc n, first, count + 1, inr (inr (inl (folder, mid, count, takes, begun, refl))))
 pages_begun w p e (u ∷ us) listed taken why new (inr (inr (inr (folder, count, much, is, a, b, c)))) = (0, [], 0, (refl, refl, refl, is))
 
-pub files_begun : (w : World) (p e : ℕ) (us : List Update) (taken : ℕ) (why : Option Refusal) (new : World) → TakesFiles w p e us taken why new → BeginsFiles w p e us new
-files_begun w p e [] taken why new (a, b, is) = (0, 0, (refl, refl, is))
-files_begun w p e (u ∷ us) taken why new (inl (never, t)) = let (n, count, begun) = files_begun w p e us taken why new t in (suc n, count, inl (never, begun))
-files_begun w p e (u ∷ us) taken why new (inr (inl (wanted, usn, last, a, b, is))) = (0, 0, (refl, refl, is))
-files_begun w p e (u ∷ us) taken why new (inr (inr (inl (v, mid, others, wanted, same, file, takes, t, is)))) =
-    let (n, count, begun) = files_begun mid p e us others why new t in (suc n, count + 1, inr (inr (inl (v, mid, count, wanted, same, file, takes, begun, refl))))
-files_begun w p e (u ∷ us) taken why new (inr (inr (inr (v, count, wanted, same, file, much, is, a, b)))) = (0, 0, (refl, refl, is))
+pub files_begun : (s : Scene) (p e : ℕ) (us : List Update) (taken : ℕ) (why : Option Refusal) (new : Scene) → TakesFiles s p e us taken why new → BeginsFiles s p e us new
+files_begun s p e [] taken why new (a, b, is) = (0, 0, (refl, refl, is))
+files_begun s p e (u ∷ us) taken why new (inl (never, t)) = let (n, count, begun) = files_begun s p e us taken why new t in (suc n, count, inl (never, begun))
+files_begun s p e (u ∷ us) taken why new (inr (inl (wanted, usn, last, a, b, is))) = (0, 0, (refl, refl, is))
+files_begun s p e (u ∷ us) taken why new (inr (inr (inl (v, given, mid, others, wanted, same, file, gives, takes, t, is)))) =
+    let (n, count, begun) = files_begun (with_given s p v given mid) p e us others why new t in (suc n, count + 1, inr (inr (inl (v, given, mid, count, wanted, same, file, gives, takes, begun, refl))))
+files_begun s p e (u ∷ us) taken why new (inr (inr (inr (v, count, wanted, same, file, much, is, a, b)))) = (0, 0, (refl, refl, is))
 
 -- the vector alone
-pub sent_begun : (w : World) (p e : ℕ) → VersionsAreMade w → BeginsPull w p e (sends_vector w e)
-sent_begun w p e made = let (page, asked) = page_some w p e made in (sends_vector w e, page, refl, asked, inl (0, [], 0, (refl, refl, refl, refl)))
+pub sent_begun : (s : Scene) (p e : ℕ) → VersionsAreMade s.world → BeginsPull s p e (in_world s (sends_vector s.world e))
+sent_begun s p e made = let (page, asked) = page_some s.world p e made in (sends_vector s.world e, page, refl, asked, inl (sends_vector s.world e, (0, [], 0, (refl, refl, refl, refl)), refl))
 
 -- all pages and what is begun behind them
-rest_begun : (mid : World) (p e : ℕ) (s : Versions) (listed : List Update) (fetched : ℕ) (second : Option Refusal) (last : World) (why : Option Refusal) (new : World) → TakesFiles mid p e listed fetched second last
-    → GoesOn second last (λ filed why new. Ends filed p s why new) why new → BeginsRest mid p e s listed new
-rest_begun mid p e s listed fetched (Some refused) last why new files (is, same) = subst (BeginsRest mid p e s listed) (sym same) (inl (files_begun mid p e listed fetched (Some refused) last files))
-rest_begun mid p e s listed fetched None last why new files (inl (fits, step, none)) = inr (fetched, last, files, inl (fits, step, refl))
-rest_begun mid p e s listed fetched None last why new files (inr (count, much, is, same)) = subst (BeginsRest mid p e s listed) (sym same) (inl (files_begun mid p e listed fetched None last files))
+rest_begun : (s : Scene) (p e : ℕ) (versions : Versions) (listed : List Update) (fetched : ℕ) (why : Option Refusal) (new : Scene) → Rest p e versions listed fetched s why new → BeginsRest s p e versions listed new
+rest_begun s p e versions listed fetched why new (Some refused, last, files, (is, same)) = subst (BeginsRest s p e versions listed) (sym same) (inl (files_begun s p e listed fetched (Some refused) last files))
+rest_begun s p e versions listed fetched why new (None, last, files, (w, inl (fits, step, none), is)) = inr (fetched, last, w, files, inl (fits, step, refl), is)
+rest_begun s p e versions listed fetched why new (None, last, files, (w, inr (count, much, some, same), is)) =
+    subst (BeginsRest s p e versions listed) (sym (is ∙ ap (in_world last) same)) (inl (files_begun s p e listed fetched None last files))
 
 -- a pull that ended, or was refused on the way
-pull_begun : (w : World) (p e taken : ℕ) (why : Option Refusal) (new : World) → Pulls w p e taken why new → BeginsPull w p e new
-pull_begun w p e taken why new (sent, page, listed, at_once, fetched, Some first, mid, step, asked, pages, (is, same), count) =
-    subst (BeginsPull w p e) (sym same) (sent, page, step, asked, inl (pages_begun sent p e page listed at_once (Some first) mid pages))
-pull_begun w p e taken why new (sent, page, listed, at_once, fetched, None, mid, step, asked, pages, (second, last, files, on), count) =
-    (sent, page, step, asked, inr (listed, at_once, mid, pages, rest_begun mid p e (w.at e).known listed fetched second last why new files on))
+pull_begun : (s : Scene) (p e taken : ℕ) (why : Option Refusal) (new : Scene) → Pulls s p e taken why new → BeginsPull s p e new
+pull_begun s p e taken why new (sent, page, listed, at_once, fetched, Some first, mid, step, asked, pages, (is, same), count) =
+    (sent, page, step, asked, inl (mid, pages_begun sent p e page listed at_once (Some first) mid pages, same))
+pull_begun s p e taken why new (sent, page, listed, at_once, fetched, None, mid, step, asked, pages, on, count) =
+    (sent, page, step, asked, inr (listed, at_once, mid, pages, rest_begun (in_world s mid) p e (s.world.at e).known listed fetched why new on))
 
-pub ended_begun : (w : World) (p e : ℕ) (outcome : Result ℕ Refusal) (new : World) → PullEnds w p e outcome new → BeginsPull w p e new
-ended_begun w p e (Ok taken) new pulls = pull_begun w p e taken None new pulls
-ended_begun w p e (Err why) new (taken, pulls) = pull_begun w p e taken (Some why) new pulls
+pub ended_begun : (s : Scene) (p e : ℕ) (outcome : Result ℕ Refusal) (new : Scene) → PullEnds s p e outcome new → BeginsPull s p e new
+ended_begun s p e (Ok taken) new pulls = pull_begun s p e taken None new pulls
+ended_begun s p e (Err why) new (taken, pulls) = pull_begun s p e taken (Some why) new pulls
 
 -- a pull of another member
-pub pull_line_begun : (s : Scene) (name other : List ℕ) (p e : ℕ) (w : World) → IsNamed s name p → IsNamed s other e → bytes_eq name other ≡ false → (w ≡ s.world) ⊎ BeginsPull s.world p e w → Begins s (lines.Pull name other) (in_world s w)
-pull_line_begun s name other p e w named there apart (inl same) = inl (ap (in_world s) same)
-pull_line_begun s name other p e w named there apart (inr begun) = inr (p, w, named, (e, there, apart, begun), refl)
+pub pull_line_begun : (s : Scene) (name other : List ℕ) (p e : ℕ) (new : Scene) → IsNamed s name p → IsNamed s other e → bytes_eq name other ≡ false → (new ≡ s) ⊎ BeginsPull s p e new → Begins s (lines.Pull name other) new
+pull_line_begun s name other p e new named there apart (inl same) = inl same
+pull_line_begun s name other p e new named there apart (inr begun) = inr (p, e, named, there, apart, begun)
+
+-- ---- the installer
+
+-- what came of a step was begun
+pub step_begun : (s : Scene) (name : List ℕ) (d : ℕ) (outcome : Result (Option InstallStep) Refusal) (w : World) → IsNamed s name d → Installs s d outcome w
+    → BeginsAt s name (λ d w. (step : InstallStep) × Installs s d (Ok (Some step)) w) (in_world s w)
+step_begun s name d (Ok None) w named (none, same) = inl (ap (in_world s) same)
+step_begun s name d (Ok (Some step)) w named installs = inr (d, w, named, (step, installs), refl)
+step_begun s name d (Err why) w named (stopped, same) = inl (ap (in_world s) same)
+
+-- all steps but the refused one were begun
+pub drain_begun : (s : Scene) (d : ℕ) (steps : List InstallStep) (why : Option Refusal) (new : World) → Drains s d steps why new → InstallsSome s d steps new
+drain_begun s d [] None new (none, same) = same
+drain_begun s d [] (Some why) new (stopped, same) = same
+drain_begun s d (step ∷ steps) why new (mid, installs, drains) = (mid, installs, drain_begun (in_world s mid) d steps why new drains)
+
+pub drained_begun : (s : Scene) (name : List ℕ) (d : ℕ) (outcome : Result ℕ Refusal) (w : World) → IsNamed s name d → DrainedBy s d outcome w
+    → BeginsAt s name (λ d w. (steps : List InstallStep) × InstallsSome s d steps w) (in_world s w)
+drained_begun s name d (Ok many) w named (steps, drains, count) = inr (d, w, named, (steps, drain_begun s d steps None w drains), refl)
+drained_begun s name d (Err why) w named (steps, drains) = inr (d, w, named, (steps, drain_begun s d steps (Some why) w drains), refl)
 
 -- ---- lines
 
@@ -127,6 +149,8 @@ nothing_begun s (lines.Remove name path) = inl refl
 nothing_begun s (lines.Consume name moment) = inl refl
 nothing_begun s (lines.Change name path moment) = inl refl
 nothing_begun s (lines.Pull name other) = inl refl
+nothing_begun s (lines.Install name) = inl refl
+nothing_begun s (lines.Drain name) = inl refl
 nothing_begun s (lines.Show name) = refl
 nothing_begun s (lines.Tree name) = refl
 nothing_begun s (lines.Sums name) = refl

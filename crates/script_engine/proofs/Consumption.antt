@@ -1,11 +1,12 @@
 -- A journal record consumed at a member's machine is consumed at the member.
-use Rattle.std.proofs.Common.{◌≡◌, ◌≢◌, ◌<◌, ◌≤◌, ◌+◌, ◌-◌, ◌^◌, ◌⊎◌, ◌&&◌, ℕ, zero, suc, Bool, true, false, leb, List, [], ◌∷◌, ◌++◌, length, refl, sym, ap, ◌∙◌, subst, arith, inl, inr, MatchBool, MatchOption, Option, Some, None}
+use Rattle.std.proofs.Common.{cond, ◌≡◌, ◌≢◌, ◌<◌, ◌≤◌, ◌+◌, ◌-◌, ◌^◌, ◌⊎◌, ◌&&◌, ℕ, zero, suc, Bool, true, false, leb, List, [], ◌∷◌, ◌++◌, length, refl, sym, ap, ◌∙◌, subst, arith, inl, inr, MatchBool, MatchOption, Option, Some, None}
 use Rattle.std.specs.Prelude.{option_to_list, slice_get}
 use Rattle.std.proofs.lemmas.Bool.Decides.{nat_tests}
 use Rattle.std.proofs.lemmas.List.{length-append}
 use Rattle.frs_base.specs.Identifiers.{content_set}
+use Rattle.frs_base.specs.declared.version.Uid.{Uid}
 use Rattle.frs_base.specs.Options.{In}
-use Rattle.frs_base.specs.Versions.{same_gvsn}
+use Rattle.frs_base.specs.Versions.{same_gvsn, same_uid}
 use Rattle.version_vector.specs.Versions.{covers}
 use Rattle.win_order.specs.declared.update.Update.{Update}
 use Rattle.vol_state.specs.declared.record.VolRecord.{VolRecord}
@@ -36,7 +37,7 @@ use Rattle.folder_core.specs.Books.{Changed, Takes}
 use Rattle.folder_core.specs.Consume.{AnswersConsume, AnswersRecord, is_at_end, made_at}
 use Rattle.folder_core.specs.Sound.{IsSound as IsSoundMachine}
 use Rattle.script_engine.specs.Sound.{IsSoundWorld}
-use Rattle.script_engine.specs.Standing.{AreOurs, MachineStands, recorded_in}
+use Rattle.script_engine.specs.Standing.{AreOurs, HoldsContents, MachineStands, recorded_in}
 use Rattle.script_engine.specs.Consuming.{IsAtEnd, widened}
 use Rattle.script_engine.specs.Widening.{Exceeds, Fits}
 use Rattle.script_engine.proofs.Staging.{staged_dropped}

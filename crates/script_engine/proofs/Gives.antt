@@ -74,7 +74,7 @@ abbrev pub GivenSum : Update → Option (List ℕ) → Type 0
 GivenSum u given = MatchBool (is_file u) ((bytes : List ℕ) × (given ≡ Some bytes) × (content_sum File bytes ≡ u.hash)) (given ≡ None)
 
 -- contents at a member with the hash of its record
-ContentsWith : Scene → ℕ → Update → Type 0
+abbrev ContentsWith : Scene → ℕ → Update → Type 0
 ContentsWith s d u = (bytes : List ℕ) × ContentsAt s d u.uid bytes × (content_sum File bytes ≡ u.hash)
 
 contents_with : (s : Scene) (d : ℕ) (u : Update) → IsKept s → IsOfFile s.world d u → is_file u ≡ true → ContentsWith s d u
@@ -114,8 +114,10 @@ gives_some s d u h of = by (is_file u) refl
         × MatchBool t ((bytes : List ℕ) × (given ≡ Some bytes) × (content_sum File bytes ≡ u.hash)) (given ≡ None)
 
     by : (t : Bool) → is_file u ≡ t → (given : Option (List ℕ)) × Gives s d u given × GivenSum u given
-    by true file = let (bytes, at, sum) = contents_with s d u h of file in (Some bytes, subst (λ t. Both t (Some bytes)) (sym file) ((bytes, at, refl), (bytes, refl, sum)))
-    by false other = (None, subst (λ t. Both t None) (sym other) (refl, refl))
+    by true file =
+        let (bytes, at, sum) = contents_with s d u h of file in
+        let (gives, is) = subst (λ t. Both t (Some bytes)) (sym file) ((bytes, at, refl), (bytes, refl, sum)) in (Some bytes, gives, is)
+    by false other = let (gives, is) = subst (λ t. Both t None) (sym other) (refl, refl) in (None, gives, is)
 
 -- so has whatever it gives
 pub gives_sum : (s : Scene) (d : ℕ) (u : Update) (given : Option (List ℕ)) → IsKept s → IsOfFile s.world d u → Gives s d u given → GivenSum u given

@@ -31,7 +31,7 @@ use Rattle.script_engine.proofs.Leading.{leads_kept}
 use Rattle.script_engine.proofs.Pulled.{files_lead, given_leads, paged_leads}
 use Rattle.script_engine.specs.Widening.{Exceeds, Fits}
 use Rattle.script_engine.proofs.Once.{record_one}
-use Rattle.script_engine.proofs.Passing.{Passes, files_pass, pages_pass, passes_consume, passes_trans, passes_update, passes_vector, takes_passes}
+use Rattle.script_engine.proofs.Passing.{Passes, pages_pass, passes_consume, passes_trans, passes_update, passes_vector, takes_passes}
 use Rattle.script_engine.proofs.Listed.{page_some, wanted_or}
 use Rattle.script_engine.proofs.Vectors.{HasVector, fits_or_exceeds, vector_both, vector_plus}
 

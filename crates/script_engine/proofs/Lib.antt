@@ -8,6 +8,12 @@ mod Sorting
 pub mod Vectors
 pub mod Volumes
 pub mod Passing
+pub mod Gives
+pub mod Leading
+pub mod Pulled
+pub mod Replicas
+pub mod Installed
+pub mod Drained
 pub mod Scenes
 pub mod Pairs
 pub mod Going
@@ -20,6 +26,7 @@ pub mod Consumption
 pub mod Adopting
 pub mod Serving
 pub mod Finishing
+pub mod Stepping
 pub mod Events
 pub mod Exhausting
 pub mod Spoken

@@ -221,7 +221,7 @@ files_one s puller server (u ∷ us) a b why other m n h (inr (inr (inl (v, give
     absurd (not_both (plus (s.world.at puller).known v'.gvsn) count (subst (λ (x : Update). Fits (plus (s.world.at puller).known x.gvsn)) one took.0) much.1)
 files_one s puller server (u ∷ us) a b why other m n h (inr (inr (inr (v, count, wanted, _, _, _, _, _, _)))) (inl (beaten, p')) = absurd (beaten wanted)
 files_one s puller server (u ∷ us) a b why other m n h (inr (inr (inr (v, count, wanted, same, file, _, _, _, _)))) (inr (inl (wanted', usn, last, _, _, _))) = absurd (not_pending s.world server u v usn last same file)
-files_one s puller server (u ∷ us) a b why other m n h (inr (inr (inr (v, count, wanted, same, file, much, _, _, _)))) (inr (inr (inl (v', mid, others, wanted', same', file', took, _, _)))) =
+files_one s puller server (u ∷ us) a b why other m n h (inr (inr (inr (v, count, wanted, same, file, much, _, _, _)))) (inr (inr (inl (v', given, mid, others, wanted', same', file', _, took, _, _)))) =
     let one : v' ≡ v = record_one s.world server v' v h.world.invariant.versions file'.0 file.0 (same' ∙ sym same) in
     absurd (not_both (plus (s.world.at puller).known v.gvsn) count (subst (λ (x : Update). Fits (plus (s.world.at puller).known x.gvsn)) one took.0) much.1)
 files_one s puller server (u ∷ us) a b why other m n h (inr (inr (inr (v, count, wanted, same, file, much, is, z, q)))) (inr (inr (inr (v', count', wanted', same', file', much', is', z', q')))) =

@@ -1,5 +1,5 @@
 -- A line prints one text and leads to one scene.
-use Rattle.std.proofs.Common.{◌≡◌, ◌<◌, ◌+◌, ◌^◌, ◌++◌, ℕ, List, [], ◌∷◌, refl, sym, ap, ◌∙◌, subst, Option, Some, None, MatchOption, Result, Ok, Err}
+use Rattle.std.proofs.Common.{◌≡◌, ◌<◌, ◌+◌, ◌^◌, ◌++◌, ℕ, List, [], ◌∷◌, length, refl, sym, ap, ◌∙◌, subst, Option, Some, None, MatchOption, Result, Ok, Err}
 use Rattle.std.specs.Prelude.{MatchResult, codes, decimal, flat_map}
 use Rattle.std.proofs.lemmas.List.Elements.{All-head, All-tail}
 use Rattle.frs_base.specs.Identifiers.{database_of}
@@ -26,8 +26,11 @@ use Rattle.script_engine.specs.declared.consumed.Consumed.{Consumed}
 use Rattle.script_engine.specs.Consuming.{ConsumesAll}
 use Rattle.script_engine.specs.Pulling.{Pulls}
 use Rattle.script_engine.specs.Trees.{files_of, sums_text, tree_text}
-use Rattle.script_engine.specs.Text.{Acts, Changes, Consumes, Counts, IsRefused, Operates, PrintsSums, PrintsTree, Run, Shows, count_text, filled, last_text, left_by, text_unless, usn_text}
+use Rattle.script_engine.specs.Text.{Acts, Changes, Consumes, Counts, DrainsAll, InstallsNext, IsRefused, Operates, PrintsSums, PrintsTree, Run, Shows, count_text, filled, installed_text, last_text, left_by, text_unless, usn_text}
 use Rattle.script_engine.specs.Scripts.{LinesPrintOneText, OneText, RunsPrintOneText}
+use Rattle.script_engine.proofs.Drained.{drains_one}
+use Rattle.script_engine.proofs.Gives.{scene_kept}
+use Rattle.script_engine.proofs.Installed.{installs_one}
 use Rattle.script_engine.proofs.Once.{consumes_all_one, next_by, next_one, pulls_one}
 use Rattle.script_engine.proofs.Sorting.{one_tree}
 use Rattle.script_engine.proofs.Passing.{passes_local}
@@ -112,6 +115,18 @@ counts_one s d a b (vector, records, rows, v, l, is, said) (vector', records', r
     let tree = one_tree (s.world.at d).volume rows rows' is is' in
     said ∙ (λ i. count_text (list i) (tree i) (same i)) ∙ sym said'
 
+-- ---- the installer
+
+installed_one : (s : Scene) (name : List ℕ) (d : ℕ) (a b : List ℕ) (m n : Scene) → IsSoundScene s → InstallsNext s name d a m → InstallsNext s name d b n → Alike a b m n
+installed_one s name d a b m n h (outcome, w, installs, said, is) (outcome', w', installs', said', is') =
+    let (same, world) = installs_one s d outcome outcome' w w' h installs installs' in
+    (said ∙ ap (installed_text (members_of s) name) same ∙ sym said', is ∙ ap (in_world s) world ∙ sym is')
+
+drained_one : (s : Scene) (d : ℕ) (a b : List ℕ) (m n : Scene) → IsSoundScene s → DrainsAll s d a m → DrainsAll s d b n → Alike a b m n
+drained_one s d a b m n h (steps, why, w, drains, said, is) (steps', why', w', drains', said', is') =
+    let (same, refusal, world) = drains_one s d steps steps' why why' w w' h drains drains' in
+    (said ∙ (λ i. text_unless (refusal i) (printed (codes "drained" ∷ decimal (length (same i)) ∷ []))) ∙ sym said', is ∙ ap (in_world s) world ∙ sym is')
+
 -- ---- lines
 
 -- what a member does, by either of its databases
@@ -128,10 +143,12 @@ acts_one s (lines.Move name from to) a b m n h form p q = by_name s name (λ d. 
 acts_one s (lines.Remove name path) a b m n h form p q = by_name s name (λ d. Operates s d (op.Remove path)) a b m n (λ d. operates_one s d (op.Remove path) a b m n h) p q
 acts_one s (lines.Consume name moment) a b m n h form p q = by_name s name (λ d. Consumes s name d moment) a b m n (λ d. consumes_one s name d moment a b m n h) p q
 acts_one s (lines.Change name path moment) a b m n h form p q = by_name s name (λ d. Changes s name d (op.Put path []) moment) a b m n (λ d. changes_one s name d (op.Put path []) moment a b m n form.2 h) p q
-acts_one s (lines.Pull name other) a b m n h form (p, q, taken, why, w, at, from, pulls, said, is) (p', q', taken', why', w', at', from', pulls', said', is') =
-    let same = pulls_one s.world p q taken taken' why why' w w' h.world pulls
-    (subst (λ x. Pulls s.world x q taken' why' w') (named_one s name p' p at' at) (subst (λ x. Pulls s.world p' x taken' why' w') (named_one s other q' q from' from) pulls')) in
-    (said ∙ unless_one why why' _ _ same.refusal (λ none. ap (λ x. printed (codes "pulled" ∷ decimal x ∷ [])) (same.told none)) ∙ sym said', is ∙ ap (in_world s) same.world ∙ sym is')
+acts_one s (lines.Pull name other) a b m n h form (p, q, taken, why, at, from, pulls, said) (p', q', taken', why', at', from', pulls', said') =
+    let same = pulls_one s p q taken taken' why why' m n (scene_kept s h) pulls
+    (subst (λ x. Pulls s x q taken' why' n) (named_one s name p' p at' at) (subst (λ x. Pulls s p' x taken' why' n) (named_one s other q' q from' from) pulls')) in
+    (said ∙ unless_one why why' _ _ same.refusal (λ none. ap (λ x. printed (codes "pulled" ∷ decimal x ∷ [])) (same.told none)) ∙ sym said', same.scene)
+acts_one s (lines.Install name) a b m n h form p q = by_name s name (λ d. InstallsNext s name d) a b m n (λ d. installed_one s name d a b m n h) p q
+acts_one s (lines.Drain name) a b m n h form p q = by_name s name (λ d. DrainsAll s d) a b m n (λ d. drained_one s d a b m n h) p q
 acts_one s (lines.Show name) a b m n h form (d, at, shows, is) (d', at', shows', is') = (shows_one s d a b shows (subst (λ x. Shows s x b) (named_one s name d' d at' at) shows'), is ∙ sym is')
 acts_one s (lines.Tree name) a b m n h form (d, at, shows, is) (d', at', shows', is') = (tree_one s d a b shows (subst (λ x. PrintsTree s x b) (named_one s name d' d at' at) shows'), is ∙ sym is')
 acts_one s (lines.Sums name) a b m n h form (d, at, shows, is) (d', at', shows', is') = (sums_one s d a b shows (subst (λ x. PrintsSums s x b) (named_one s name d' d at' at) shows'), is ∙ sym is')

@@ -1,5 +1,5 @@
 -- Every line prints something and leads on.
-use Rattle.std.proofs.Common.{◌≡◌, ◌≢◌, ◌<◌, ◌+◌, ◌^◌, ℕ, Bool, true, false, cond, List, [], ◌∷◌, get_or, refl, sym, ap, ◌∙◌, subst, arith, Option, Some, None, MatchOption, Result, Ok, Err}
+use Rattle.std.proofs.Common.{◌≡◌, ◌≢◌, ◌<◌, ◌+◌, ◌^◌, ℕ, Bool, true, false, cond, List, [], ◌∷◌, get_or, length, refl, sym, ap, ◌∙◌, subst, arith, Option, Some, None, MatchOption, Result, Ok, Err}
 use Rattle.std.specs.Prelude.{bytes_eq, codes, decimal, is_some}
 use Rattle.std.proofs.lemmas.List.Quantifiers.{position-Some}
 use Rattle.std.proofs.lemmas.Slice.Eq.{bytes_eq-Decides}
@@ -18,16 +18,19 @@ use Rattle.script_lang.specs.declared.line.Line.TheVariants as lines
 use Rattle.world_model.specs.World.{World, with_member}
 use Rattle.world_model.specs.Events.{Step, Local as LocalEvent, operated}
 use Rattle.world_model.proofs.Facts.{none_some}
-use Rattle.script_engine.specs.Scene.{Scene, IsNamed, fresh_scene, in_world, place_of, with_name}
+use Rattle.script_engine.specs.Scene.{Scene, IsNamed, fresh_scene, in_world, members_of, place_of, with_name}
 use Rattle.script_engine.specs.Sound.{IsSoundScene}
 use Rattle.script_engine.specs.Printed.{printed}
 use Rattle.script_engine.specs.declared.refusal.Refusal.{Refusal}
 use Rattle.script_engine.specs.declared.refusal.Refusal.TheVariants.{Itself, Local, Unknown}
 use Rattle.script_engine.specs.Refusals.{first_refusal, refused_text, unless_named}
 use Rattle.script_engine.specs.Trees.{IsTreeOf, Row, files_of, sums_text, tree_text}
-use Rattle.script_engine.specs.Text.{Acts, Changes, Consumes, Does, IsRefused, Operates, count_text, filled, last_text, left_by, text_unless, usn_text}
+use Rattle.script_engine.specs.Text.{Acts, Changes, Consumes, Does, DrainsAll, InstallsNext, IsRefused, Operates, count_text, filled, installed_text, last_text, left_by, text_unless, usn_text}
 use Rattle.script_engine.specs.Scripts.{EveryLinePrints}
 use Rattle.script_engine.proofs.Going.{consumes_all_some, consumes_next_some, pulls_some}
+use Rattle.script_engine.proofs.Drained.{drains_some}
+use Rattle.script_engine.proofs.Gives.{scene_kept}
+use Rattle.script_engine.proofs.Installed.{installs_some}
 use Rattle.script_engine.proofs.Passing.{passes_local}
 use Rattle.script_engine.proofs.Listed.{records_some}
 use Rattle.script_engine.proofs.Scenes.{fresh_scene_sound, run_keeps}
@@ -123,8 +126,12 @@ acts_some s (lines.Consume name moment) h form e = by_name s name (λ d. Consume
 acts_some s (lines.Change name path moment) h form e = by_name s name (λ d. Changes s name d (op.Put path []) moment) e (λ d. changes_some s name d (op.Put path []) moment form.2 h)
 acts_some s (lines.Pull name other) h form e =
     let (p, q, at, from, apart) = pull_named s name other e in
-    let (taken, why, w, pulls) = pulls_some s.world p q h.world apart in
-    (text_unless why (printed (codes "pulled" ∷ decimal taken ∷ [])), in_world s w, (p, q, taken, why, w, at, from, pulls, refl, refl))
+    let (taken, why, new, pulls) = pulls_some s p q (scene_kept s h) apart in
+    (text_unless why (printed (codes "pulled" ∷ decimal taken ∷ [])), new, (p, q, taken, why, at, from, pulls, refl))
+acts_some s (lines.Install name) h form e =
+    by_name s name (λ d. InstallsNext s name d) e (λ d. let (outcome, w, installs) = installs_some s d h in (installed_text (members_of s) name outcome, in_world s w, (outcome, w, installs, refl, refl)))
+acts_some s (lines.Drain name) h form e =
+    by_name s name (λ d. DrainsAll s d) e (λ d. let (steps, why, w, drains) = drains_some s d h in (text_unless why (printed (codes "drained" ∷ decimal (length steps) ∷ [])), in_world s w, (steps, why, w, drains, refl, refl)))
 acts_some s (lines.Show name) h form e =
     let (d, named) = named_some s name e in
     let (vector, v) = h.world.vectors d in

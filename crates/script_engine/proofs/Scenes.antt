@@ -181,9 +181,9 @@ acts_follow s P (lines.Consume name moment) text new h form f (d, named, (done, 
     subst P (sym is) (f.further name d (in_world s w) named (leads_by d s w (consumes_next_passes s.world d moment done why w form.1 h.world next) (consumes_next_unstages s.world d moment done why w next)))
 acts_follow s P (lines.Change name path moment) text new h form f (d, named, acts) = changed_follows s P name d (op.Put path []) moment text new form.2 h f named acts
 acts_follow s P (lines.Pull name other) text new h form f (puller, server, taken, why, named, there, pulls, said) = f.further name puller new named (pulls_lead s puller server taken why new (scene_kept s h) pulls)
-acts_follow s P (lines.Install name) text new h form f (d, named, outcome, w, installs, said, is) =
+acts_follow s P (lines.Install name) text new h form f (d, named, (outcome, w, installs, said, is)) =
     subst P (sym is) (f.further name d (in_world s w) named (leads_by d s w (installs_pass s d outcome w h.world installs) (installs_stage s d outcome w h.world installs)))
-acts_follow s P (lines.Drain name) text new h form f (d, named, steps, why, w, drains, said, is) =
+acts_follow s P (lines.Drain name) text new h form f (d, named, (steps, why, w, drains, said, is)) =
     subst P (sym is) (f.further name d (in_world s w) named (leads_by d s w (drains_pass s d steps why w h.world drains) (drains_stage s d steps why w h.world drains)))
 acts_follow s P (lines.Show name) text new h form f (d, named, shows, is) = subst P (sym is) f.same
 acts_follow s P (lines.Tree name) text new h form f (d, named, shows, is) = subst P (sym is) f.same

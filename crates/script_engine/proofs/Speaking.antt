@@ -66,13 +66,13 @@ pull_itself s name other at from e f same = λ i. cond (is_some (e i)) (cond (is
 pub pull_first : (s : Scene) (name other : List ℕ) (at from : ℕ) → place_of s.names name ≡ Some at → place_of s.names other ≡ Some from → bytes_eq name other ≡ false → first_refusal s (lines.Pull name other) ≡ None
 pull_first s name other at from e f apart = λ i. cond (is_some (e i)) (cond (is_some (f i)) (cond (apart i) (Some Itself) None) (Some (Unknown other))) (Some (Unknown name))
 
-pub pull_done : (s : Scene) (name other : List ℕ) (at from taken : ℕ) (w : World) → place_of s.names name ≡ Some at → place_of s.names other ≡ Some from
-    → PullEnds s.world (database_of (at + 1)) (database_of (from + 1)) (Ok taken) w → Acts s (lines.Pull name other) (printed (codes "pulled" ∷ decimal taken ∷ [])) (in_world s w)
-pull_done s name other at from taken w e f pulls = (database_of (at + 1), database_of (from + 1), taken, None, w, (at, e, refl), (from, f, refl), pulls, refl, refl)
+pub pull_done : (s : Scene) (name other : List ℕ) (at from taken : ℕ) (new : Scene) → place_of s.names name ≡ Some at → place_of s.names other ≡ Some from
+    → PullEnds s (database_of (at + 1)) (database_of (from + 1)) (Ok taken) new → Acts s (lines.Pull name other) (printed (codes "pulled" ∷ decimal taken ∷ [])) new
+pull_done s name other at from taken new e f pulls = (database_of (at + 1), database_of (from + 1), taken, None, (at, e, refl), (from, f, refl), pulls, refl)
 
-pub pull_cut : (s : Scene) (name other : List ℕ) (at from : ℕ) (why : Refusal) (w : World) → place_of s.names name ≡ Some at → place_of s.names other ≡ Some from
-    → PullEnds s.world (database_of (at + 1)) (database_of (from + 1)) (Err why) w → Acts s (lines.Pull name other) (refused_text why) (in_world s w)
-pull_cut s name other at from why w e f (taken, pulls) = (database_of (at + 1), database_of (from + 1), taken, Some why, w, (at, e, refl), (from, f, refl), pulls, refl, refl)
+pub pull_cut : (s : Scene) (name other : List ℕ) (at from : ℕ) (why : Refusal) (new : Scene) → place_of s.names name ≡ Some at → place_of s.names other ≡ Some from
+    → PullEnds s (database_of (at + 1)) (database_of (from + 1)) (Err why) new → Acts s (lines.Pull name other) (refused_text why) new
+pull_cut s name other at from why new e f (taken, pulls) = (database_of (at + 1), database_of (from + 1), taken, Some why, (at, e, refl), (from, f, refl), pulls, refl)
 
 -- ---- a new member
 

@@ -29,7 +29,7 @@ pub mod Deciding
 pub mod Due
 pub mod Views
 mod Drained
-mod Next
-mod Pending
-mod Ending
+pub mod Next
+pub mod Pending
+pub mod Ending
 pub mod Alone

@@ -1,6 +1,7 @@
 use Rattle.std.proofs.Common.{◌≡◌, ◌+◌, ap, subst}
 use Rattle.frs_base.specs.Identifiers.{database_of}
-use Rattle.script_engine.specs.Pulls.{Took}
+use Rattle.script_engine.specs.Engines.{Stands}
+use Rattle.script_engine.specs.Pulls.{Took, after_taking}
 use Rattle.script_engine.proofs.Beginning.{on_err, still}
 use Rattle.script_engine.proofs.Puller.{adopted_on}
 use Rattle.script_engine.proofs.engine.Engine.adopt.Goals as goal
@@ -12,11 +13,12 @@ unreachable-requires c =
     let reads = on.reads in let said = c.taken_of.ensures in let none = c.in_default.is in cc
 
 pub returns-clause-ok : goal.returns-clause-ok
-returns-clause-ok c = λ s stands can.
+returns-clause-ok c = λ s given stands can form.
     let on = adopted_on c.args.at c.args.from c.args.entry c.args.form c.args.update c.in_ok-reply.reply c.args.self.now c.event.new.self s c.requires.room stands c.event.ensures.names c.in_ok-reply.ensures.ok c.requires.form can in
     let reads = on.reads in let said = c.taken_of.ensures in let some = c.in-Some.is in
     let same : on.outcome ≡ c.in-Some.outcome = cc in
-    (on.after, subst (λ o. Took s.world (database_of (c.args.at + 1)) c.args.from c.args.update o on.after) same on.took, on.stands)
+    (on.after, subst (λ o. Took s.world (database_of (c.args.at + 1)) c.args.from c.args.update o on.after) same on.took,
+        subst (λ o. Stands c.event.new.self (after_taking s (database_of (c.args.at + 1)) c.args.update given o on.after)) same (on.stands given form))
 
 pub returns-clause-made : goal.returns-clause-made
 returns-clause-made c =

@@ -45,7 +45,7 @@ returns-in-Err-clause-ok c = λ s stands.
     let (paged, took, on1) = c.in_ok-paged.ensures.ok (in_world s sent) on given in
     let took1 = subst (λ n. PagesTaken sent p n page c.in_ok-paged.field-0 paged) server (subst (λ l. PagesTaken sent p c.database-server.result l c.in_ok-paged.field-0 paged) c.deref.ensures.value took) in
     let cut = subst (λ o. PagesTaken sent p e page o paged) c.in-Err.is took1 in
-    (paged, cut_in_pages s.world p e page c.in-Err.refusal paged asked cut, on1)
+    (in_world s paged, cut_in_pages s p e page c.in-Err.refusal paged asked cut, on1)
 
 pub take_files-requires-clause-may : goal.take_files-requires-clause-may
 take_files-requires-clause-may c =
@@ -91,9 +91,9 @@ returns-in-Err-2-clause-ok c = λ s stands.
     let covered = listed_covered s.world p e page listed paged asked treated grown in
     let files = subst (AreCovered paged e) (sym c.deref-2.ensures.value) covered in
     let (filed, got, on2) = c.in_ok-fetched.ensures.ok (in_world s paged) on1 files in
-    let got2 = subst (λ l. FilesTaken paged p e l c.in_ok-fetched.field-0 filed) c.deref-2.ensures.value got in
-    let cut = subst (λ o. FilesTaken paged p e listed o filed) c.in-Err-2.is got2 in
-    (filed, cut_in_files s.world p e page c.in-Ok.paged paged c.in-Err-2.refusal filed asked all1 cut, on2)
+    let got2 = subst (λ l. FilesTaken (in_world s paged) p e l c.in_ok-fetched.field-0 filed) c.deref-2.ensures.value got in
+    let cut = subst (λ o. FilesTaken (in_world s paged) p e listed o filed) c.in-Err-2.is got2 in
+    (filed, cut_in_files s p e page c.in-Ok.paged paged c.in-Err-2.refusal filed asked all1 cut, on2)
 
 pub finish-requires-clause-may : goal.finish-requires-clause-may
 finish-requires-clause-may c =
@@ -117,12 +117,12 @@ finish-requires-clause-may c =
     let covered = listed_covered s.world p e page listed paged asked treated grown in
     let files = subst (AreCovered paged e) (sym c.deref-2.ensures.value) covered in
     let (filed, got, on2) = c.in_ok-fetched.ensures.ok (in_world s paged) on1 files in
-    let got2 = subst (λ l. FilesTaken paged p e l c.in_ok-fetched.field-0 filed) c.deref-2.ensures.value got in
-    let all2 = subst (λ o. FilesTaken paged p e listed o filed) c.in-Ok-2.is got2 in
+    let got2 = subst (λ l. FilesTaken (in_world s paged) p e l c.in_ok-fetched.field-0 filed) c.deref-2.ensures.value got in
+    let all2 = subst (λ o. FilesTaken (in_world s paged) p e listed o filed) c.in-Ok-2.is got2 in
     let (files_took, held, more) = all2 in
-    let may = may_finish s.world p e pinned.vector page listed paged filed on.machines.scene.world.invariant.versions is.vector asked treated grown held more in
-    let seen = subst (MayFinish filed p (s.world.at e).known pinned.vector) (sym c.of-seen.ensures) may in
-    (in_world s filed, (s.world.at e).known, on2, seen)
+    let may = may_finish s.world p e pinned.vector page listed paged filed.world on.machines.scene.world.invariant.versions is.vector asked treated grown held more in
+    let seen = subst (MayFinish filed.world p (s.world.at e).known pinned.vector) (sym c.of-seen.ensures) may in
+    (filed, (s.world.at e).known, on2, seen)
 
 pub returns-in-Ok-3-clause-ok : goal.returns-in-Ok-3-clause-ok
 returns-in-Ok-3-clause-ok c = λ s stands.
@@ -145,14 +145,14 @@ returns-in-Ok-3-clause-ok c = λ s stands.
     let covered = listed_covered s.world p e page listed paged asked treated grown in
     let files = subst (AreCovered paged e) (sym c.deref-2.ensures.value) covered in
     let (filed, got, on2) = c.in_ok-fetched.ensures.ok (in_world s paged) on1 files in
-    let got2 = subst (λ l. FilesTaken paged p e l c.in_ok-fetched.field-0 filed) c.deref-2.ensures.value got in
-    let all2 = subst (λ o. FilesTaken paged p e listed o filed) c.in-Ok-2.is got2 in
+    let got2 = subst (λ l. FilesTaken (in_world s paged) p e l c.in_ok-fetched.field-0 filed) c.deref-2.ensures.value got in
+    let all2 = subst (λ o. FilesTaken (in_world s paged) p e listed o filed) c.in-Ok-2.is got2 in
     let (files_took, held, more) = all2 in
-    let may = may_finish s.world p e pinned.vector page listed paged filed on.machines.scene.world.invariant.versions is.vector asked treated grown held more in
-    let seen = subst (MayFinish filed p (s.world.at e).known pinned.vector) (sym c.of-seen.ensures) may in
-    let (after, ended, on3) = c.in_ok-finish.ensures.ok (in_world s filed) (s.world.at e).known on2 seen in
-    let ends = subst (λ o. Ended filed p (s.world.at e).known o after) c.in-Ok-3.is ended in
-    (after, all_taken s.world p e page c.in-Ok.paged paged c.in-Ok-2.fetched filed after asked all1 all2 ends, on3)
+    let may = may_finish s.world p e pinned.vector page listed paged filed.world on.machines.scene.world.invariant.versions is.vector asked treated grown held more in
+    let seen = subst (MayFinish filed.world p (s.world.at e).known pinned.vector) (sym c.of-seen.ensures) may in
+    let (after, ended, on3) = c.in_ok-finish.ensures.ok filed (s.world.at e).known on2 seen in
+    let ends = subst (λ o. Ended filed.world p (s.world.at e).known o after) c.in-Ok-3.is ended in
+    (in_world filed after, all_taken s p e page c.in-Ok.paged paged c.in-Ok-2.fetched filed after asked all1 all2 ends, on3)
 
 pub returns-clause-ok : goal.returns-clause-ok
 returns-clause-ok c = λ s stands.
@@ -175,17 +175,17 @@ returns-clause-ok c = λ s stands.
     let covered = listed_covered s.world p e page listed paged asked treated grown in
     let files = subst (AreCovered paged e) (sym c.deref-2.ensures.value) covered in
     let (filed, got, on2) = c.in_ok-fetched.ensures.ok (in_world s paged) on1 files in
-    let got2 = subst (λ l. FilesTaken paged p e l c.in_ok-fetched.field-0 filed) c.deref-2.ensures.value got in
-    let all2 = subst (λ o. FilesTaken paged p e listed o filed) c.in-Ok-2.is got2 in
+    let got2 = subst (λ l. FilesTaken (in_world s paged) p e l c.in_ok-fetched.field-0 filed) c.deref-2.ensures.value got in
+    let all2 = subst (λ o. FilesTaken (in_world s paged) p e listed o filed) c.in-Ok-2.is got2 in
     let (files_took, held, more) = all2 in
-    let may = may_finish s.world p e pinned.vector page listed paged filed on.machines.scene.world.invariant.versions is.vector asked treated grown held more in
-    let seen = subst (MayFinish filed p (s.world.at e).known pinned.vector) (sym c.of-seen.ensures) may in
-    let (after, ended, on3) = c.in_ok-finish.ensures.ok (in_world s filed) (s.world.at e).known on2 seen in
-    let ends = subst (λ o. Ended filed p (s.world.at e).known o after) c.in-Err-3.is ended in
-    (after, cut_at_end s.world p e page c.in-Ok.paged paged c.in-Ok-2.fetched filed c.in-Err-3.refusal after asked all1 all2 ends, on3)
+    let may = may_finish s.world p e pinned.vector page listed paged filed.world on.machines.scene.world.invariant.versions is.vector asked treated grown held more in
+    let seen = subst (MayFinish filed.world p (s.world.at e).known pinned.vector) (sym c.of-seen.ensures) may in
+    let (after, ended, on3) = c.in_ok-finish.ensures.ok filed (s.world.at e).known on2 seen in
+    let ends = subst (λ o. Ended filed.world p (s.world.at e).known o after) c.in-Err-3.is ended in
+    (in_world filed after, cut_at_end s p e page c.in-Ok.paged paged c.in-Ok-2.fetched filed c.in-Err-3.refusal after asked all1 all2 ends, on3)
 
 pub returns-in_err-pinned-clause-err : goal.returns-in_err-pinned-clause-err
-returns-in_err-pinned-clause-err c = λ s stands. on_err c.from_residual.result (s.world, inl refl, c.in_err-pinned.ensures.err s stands)
+returns-in_err-pinned-clause-err c = λ s stands. on_err c.from_residual.result (s, inl refl, c.in_err-pinned.ensures.err s stands)
 
 pub returns-in_err-page-clause-err : goal.returns-in_err-page-clause-err
 returns-in_err-page-clause-err c = λ s stands.
@@ -193,7 +193,7 @@ returns-in_err-page-clause-err c = λ s stands.
     let e = database_of (c.args.from + 1) in
     let sent = sends_vector s.world e in
     let (is, on) = c.in_ok-pinned.ensures.ok s stands in
-    on_err c.from_residual-in_err-page.result (sent, inr (sent_begun s.world p e stands.machines.scene.world.invariant.versions), on)
+    on_err c.from_residual-in_err-page.result (in_world s sent, inr (sent_begun s p e stands.machines.scene.world.invariant.versions), on)
 
 pub returns-in_err-paged-clause-err : goal.returns-in_err-paged-clause-err
 returns-in_err-paged-clause-err c = λ s stands.
@@ -210,7 +210,7 @@ returns-in_err-paged-clause-err c = λ s stands.
     let given = subst (ArePages sent c.database-server.result) (sym c.deref.ensures.value) (subst (λ n. ArePages sent n page) (sym server) pages) in
     let (w, begun, there) = c.in_err-paged.ensures.err (in_world s sent) on given in
     let first = subst (λ n. BeginsPages sent p n page w) server (subst (λ l. BeginsPages sent p c.database-server.result l w) c.deref.ensures.value begun) in
-    on_err c.from_residual-in_err-paged.result (w, inr (sent, page, refl, asked, inl first), there)
+    on_err c.from_residual-in_err-paged.result (in_world s w, inr (sent, page, refl, asked, inl (w, first, refl)), there)
 
 pub returns-in_err-fetched-clause-err : goal.returns-in_err-fetched-clause-err
 returns-in_err-fetched-clause-err c = λ s stands.
@@ -232,9 +232,9 @@ returns-in_err-fetched-clause-err c = λ s stands.
     let listed = c.in-Ok.paged.listed.items in
     let covered = listed_covered s.world p e page listed paged asked treated grown in
     let files = subst (AreCovered paged e) (sym c.deref-2.ensures.value) covered in
-    let (w, begun, there) = c.in_err-fetched.ensures.err (in_world s paged) on1 files in
-    let first = subst (λ l. BeginsFiles paged p e l w) c.deref-2.ensures.value begun in
-    on_err c.from_residual-in_err-fetched.result (w, inr (sent, page, refl, asked, inr (listed, c.in-Ok.paged.taken, paged, pages_took, inl first)), there)
+    let (new, begun, there) = c.in_err-fetched.ensures.err (in_world s paged) on1 files in
+    let first = subst (λ l. BeginsFiles (in_world s paged) p e l new) c.deref-2.ensures.value begun in
+    on_err c.from_residual-in_err-fetched.result (new, inr (sent, page, refl, asked, inr (listed, c.in-Ok.paged.taken, paged, pages_took, inl first)), there)
 
 pub returns-in_err-finish-clause-err : goal.returns-in_err-finish-clause-err
 returns-in_err-finish-clause-err c = λ s stands.
@@ -257,11 +257,11 @@ returns-in_err-finish-clause-err c = λ s stands.
     let covered = listed_covered s.world p e page listed paged asked treated grown in
     let files = subst (AreCovered paged e) (sym c.deref-2.ensures.value) covered in
     let (filed, got, on2) = c.in_ok-fetched.ensures.ok (in_world s paged) on1 files in
-    let got2 = subst (λ l. FilesTaken paged p e l c.in_ok-fetched.field-0 filed) c.deref-2.ensures.value got in
-    let all2 = subst (λ o. FilesTaken paged p e listed o filed) c.in-Ok-2.is got2 in
+    let got2 = subst (λ l. FilesTaken (in_world s paged) p e l c.in_ok-fetched.field-0 filed) c.deref-2.ensures.value got in
+    let all2 = subst (λ o. FilesTaken (in_world s paged) p e listed o filed) c.in-Ok-2.is got2 in
     let (files_took, held, more) = all2 in
-    let all = files_begun paged p e listed c.in-Ok-2.fetched None filed files_took in
-    on_err c.from_residual-in_err-finish.result (filed, inr (sent, page, refl, asked, inr (listed, c.in-Ok.paged.taken, paged, pages_took, inl all)), c.in_err-finish.ensures.err (in_world s filed) on2)
+    let all = files_begun (in_world s paged) p e listed c.in-Ok-2.fetched None filed files_took in
+    on_err c.from_residual-in_err-finish.result (filed, inr (sent, page, refl, asked, inr (listed, c.in-Ok.paged.taken, paged, pages_took, inl all)), c.in_err-finish.ensures.err filed on2)
 
 pub returns-in-Ok-3-clause-pulled : goal.returns-in-Ok-3-clause-pulled
 returns-in-Ok-3-clause-pulled c =

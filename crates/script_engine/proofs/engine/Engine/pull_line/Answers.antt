@@ -3,7 +3,7 @@ use Rattle.frs_base.specs.Identifiers.{database_of}
 use Rattle.script_lang.specs.declared.line.Line.TheVariants.{Pull}
 use Rattle.script_engine.specs.Engines.{Stands}
 use Rattle.script_engine.specs.Pulls.{PullEnds}
-use Rattle.script_engine.specs.Scene.{Scene, in_world}
+use Rattle.script_engine.specs.Scene.{Scene}
 use Rattle.script_engine.specs.Text.{Does}
 use Rattle.script_engine.proofs.Beginning.{ended_begun, named_held, on_err, pull_line_begun}
 use Rattle.script_engine.proofs.Speaking.{acted_said, does_refuse, pull_cut, pull_done, pull_first, pull_from_none, pull_itself, pull_none, refused_said}
@@ -42,9 +42,9 @@ refusal_text-requires-in-Err c =
     let p = database_of (c.in-Some.at + 1) in
     let e = database_of (c.in-Some-place_of.from + 1) in
     let (s, stands) = c.requires.scene in
-    let (w, ended, on) = c.in_ok-taken.ensures.ok s stands in
-    let (taken, pulls) = subst (λ o. PullEnds s.world p e o w) c.in-Err.is ended in
-    pull_nameless s.world p e taken c.in-Err.refusal w pulls
+    let (new, ended, on) = c.in_ok-taken.ensures.ok s stands in
+    let (taken, pulls) = subst (λ o. PullEnds s p e o new) c.in-Err.is ended in
+    pull_nameless s p e taken c.in-Err.refusal new pulls
 
 pub returns-in-Ok-clause-ok : goal.returns-in-Ok-clause-ok
 returns-in-Ok-clause-ok c = λ s stands.
@@ -53,10 +53,10 @@ returns-in-Ok-clause-ok c = λ s stands.
     let some = sym (place_is c.args.self.now s c.args.name.now stands) ∙ sym c.place_of.ensures ∙ c.in-Some.is in
     let other = sym (place_is c.args.self.now s c.args.other.now stands) ∙ sym c.place_of-2.ensures ∙ c.in-Some-place_of.is in
     let apart : bytes_eq c.args.name.now c.args.other.now ≡ false = sym c.eq.ensures ∙ c.if-eq.false in
-    let (w, ended, on) = c.in_ok-taken.ensures.ok s stands in
-    let pulls = subst (λ o. PullEnds s.world p e o w) c.in-Ok.is ended in
-    acted_said s (Pull c.args.name.now c.args.other.now) c.pulled_text.result _ (in_world s w) c.pull.new.self (pull_first s c.args.name.now c.args.other.now c.in-Some.at c.in-Some-place_of.from some other apart) c.pulled_text.ensures
-    (pull_done s c.args.name.now c.args.other.now c.in-Some.at c.in-Some-place_of.from c.in-Ok.taken w some other pulls) on
+    let (new, ended, on) = c.in_ok-taken.ensures.ok s stands in
+    let pulls = subst (λ o. PullEnds s p e o new) c.in-Ok.is ended in
+    acted_said s (Pull c.args.name.now c.args.other.now) c.pulled_text.result _ new c.pull.new.self (pull_first s c.args.name.now c.args.other.now c.in-Some.at c.in-Some-place_of.from some other apart) c.pulled_text.ensures
+    (pull_done s c.args.name.now c.args.other.now c.in-Some.at c.in-Some-place_of.from c.in-Ok.taken new some other pulls) on
 
 pub returns-in-Err-clause-ok : goal.returns-in-Err-clause-ok
 returns-in-Err-clause-ok c = λ s stands.
@@ -65,10 +65,10 @@ returns-in-Err-clause-ok c = λ s stands.
     let some = sym (place_is c.args.self.now s c.args.name.now stands) ∙ sym c.place_of.ensures ∙ c.in-Some.is in
     let other = sym (place_is c.args.self.now s c.args.other.now stands) ∙ sym c.place_of-2.ensures ∙ c.in-Some-place_of.is in
     let apart : bytes_eq c.args.name.now c.args.other.now ≡ false = sym c.eq.ensures ∙ c.if-eq.false in
-    let (w, ended, on) = c.in_ok-taken.ensures.ok s stands in
-    let pulls = subst (λ o. PullEnds s.world p e o w) c.in-Err.is ended in
-    acted_said s (Pull c.args.name.now c.args.other.now) c.refusal_text-in-Err.result _ (in_world s w) c.pull.new.self (pull_first s c.args.name.now c.args.other.now c.in-Some.at c.in-Some-place_of.from some other apart) c.refusal_text-in-Err.ensures
-    (pull_cut s c.args.name.now c.args.other.now c.in-Some.at c.in-Some-place_of.from c.in-Err.refusal w some other pulls) on
+    let (new, ended, on) = c.in_ok-taken.ensures.ok s stands in
+    let pulls = subst (λ o. PullEnds s p e o new) c.in-Err.is ended in
+    acted_said s (Pull c.args.name.now c.args.other.now) c.refusal_text-in-Err.result _ new c.pull.new.self (pull_first s c.args.name.now c.args.other.now c.in-Some.at c.in-Some-place_of.from some other apart) c.refusal_text-in-Err.ensures
+    (pull_cut s c.args.name.now c.args.other.now c.in-Some.at c.in-Some-place_of.from c.in-Err.refusal new some other pulls) on
 
 pub returns-in_default-clause-err : goal.returns-in_default-clause-err
 returns-in_default-clause-err c = λ s stands. on_err c.unknown_text.result (s, inl refl, stands)
@@ -86,8 +86,8 @@ returns-in_err-taken-clause-err c = λ s stands.
     let named = named_held c.args.self.now s c.args.name.now c.in-Some.at stands (sym c.place_of.ensures ∙ c.in-Some.is) in
     let there = named_held c.args.self.now s c.args.other.now c.in-Some-place_of.from stands (sym c.place_of-2.ensures ∙ c.in-Some-place_of.is) in
     let apart : bytes_eq c.args.name.now c.args.other.now ≡ false = sym c.eq.ensures ∙ c.if-eq.false in
-    let (w, begun, on) = c.in_err-taken.ensures.err s stands in
-    on_err c.from_residual.result (in_world s w, pull_line_begun s c.args.name.now c.args.other.now p e w named there apart begun, on)
+    let (new, begun, on) = c.in_err-taken.ensures.err s stands in
+    on_err c.from_residual.result (new, pull_line_begun s c.args.name.now c.args.other.now p e new named there apart begun, on)
 
 pub returns-in-Ok-clause-err : goal.returns-in-Ok-clause-err
 returns-in-Ok-clause-err c = λ s stands.
@@ -96,8 +96,8 @@ returns-in-Ok-clause-err c = λ s stands.
     let named = named_held c.args.self.now s c.args.name.now c.in-Some.at stands (sym c.place_of.ensures ∙ c.in-Some.is) in
     let there = named_held c.args.self.now s c.args.other.now c.in-Some-place_of.from stands (sym c.place_of-2.ensures ∙ c.in-Some-place_of.is) in
     let apart : bytes_eq c.args.name.now c.args.other.now ≡ false = sym c.eq.ensures ∙ c.if-eq.false in
-    let (w, ended, on) = c.in_ok-taken.ensures.ok s stands in
-    on_err c.pulled_text.result (in_world s w, pull_line_begun s c.args.name.now c.args.other.now p e w named there apart (inr (ended_begun s.world p e c.in_ok-taken.field-0 w ended)), on)
+    let (new, ended, on) = c.in_ok-taken.ensures.ok s stands in
+    on_err c.pulled_text.result (new, pull_line_begun s c.args.name.now c.args.other.now p e new named there apart (inr (ended_begun s p e c.in_ok-taken.field-0 new ended)), on)
 
 pub returns-in-Err-clause-err : goal.returns-in-Err-clause-err
 returns-in-Err-clause-err c = λ s stands.
@@ -106,5 +106,5 @@ returns-in-Err-clause-err c = λ s stands.
     let named = named_held c.args.self.now s c.args.name.now c.in-Some.at stands (sym c.place_of.ensures ∙ c.in-Some.is) in
     let there = named_held c.args.self.now s c.args.other.now c.in-Some-place_of.from stands (sym c.place_of-2.ensures ∙ c.in-Some-place_of.is) in
     let apart : bytes_eq c.args.name.now c.args.other.now ≡ false = sym c.eq.ensures ∙ c.if-eq.false in
-    let (w, ended, on) = c.in_ok-taken.ensures.ok s stands in
-    on_err c.refusal_text-in-Err.result (in_world s w, pull_line_begun s c.args.name.now c.args.other.now p e w named there apart (inr (ended_begun s.world p e c.in_ok-taken.field-0 w ended)), on)
+    let (new, ended, on) = c.in_ok-taken.ensures.ok s stands in
+    on_err c.refusal_text-in-Err.result (new, pull_line_begun s c.args.name.now c.args.other.now p e new named there apart (inr (ended_begun s p e c.in_ok-taken.field-0 new ended)), on)

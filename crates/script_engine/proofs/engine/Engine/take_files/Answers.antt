@@ -5,8 +5,8 @@ use Rattle.script_engine.specs.Engines.{Stands, local_by_all}
 use Rattle.folder_core.specs.declared.event.Event.TheVariants.{Adopt, File}
 use Rattle.script_engine.specs.Histories.{Came, Fetches, answer_of}
 use Rattle.script_engine.specs.Replies.{file_of, taken_of}
-use Rattle.script_engine.specs.Pulling.{TakesFiles}
-use Rattle.script_engine.specs.Pulls.{CanTake, FetchedFrom, Took}
+use Rattle.script_engine.specs.Pulling.{TakesFiles, with_given}
+use Rattle.script_engine.specs.Pulls.{CanTake, FetchedFrom, Took, after_taking}
 use Rattle.script_engine.specs.Scene.{in_world}
 use Rattle.script_engine.proofs.Beginning.{on_err}
 use Rattle.script_engine.proofs.Paging.{FilesSo, file_can, files_covered, files_cut, files_end, files_first, files_pass, files_take, files_wait, in_place}
@@ -18,8 +18,8 @@ pub fetch-requires-clause-may : goal.fetch-requires-clause-may
 fetch-requires-clause-may c =
     let e = database_of (c.args.from + 1) in
     let (s, stands, covered) = c.requires.may in
-    let (w, so, on) = c.loop-file.invariant.ran s stands covered in
-    (in_world s w, on, files_covered s.world w e c.args.files.now c.file-item.result covered so.grows (in_place c.args.files.now c.loop-file.file-index c.file-item.result c.loop-file-test.true c.file-item.is))
+    let (t, so, on) = c.loop-file.invariant.ran s stands covered in
+    (t, on, files_covered s.world t.world e c.args.files.now c.file-item.result covered so.grows (in_place c.args.files.now c.loop-file.file-index c.file-item.result c.loop-file-test.true c.file-item.is))
 
 pub returns-in-Err-clause-ok : goal.returns-in-Err-clause-ok
 returns-in-Err-clause-ok c = λ s stands covered.
@@ -28,12 +28,12 @@ returns-in-Err-clause-ok c = λ s stands covered.
     let files = c.args.files.now in
     let i = c.loop-file.file-index in
     let u = c.file-item.result in
-    let (w, so, on) = c.loop-file.invariant.ran s stands covered in
-    let wanted = said_yes c.wants.result (IsWanted w p u) (c.wants.ensures (in_world s w) on) c.if-wants.true in
-    let known = files_covered s.world w e files u covered so.grows (in_place files i u c.loop-file-test.true c.file-item.is) in
-    let (fetched, there) = c.in_ok-fetched.ensures.ok (in_world s w) on known in
-    let last = subst (FetchedFrom w e u.uid) c.in-Err.is fetched in
-    (w, (c.loop-file.taken + 0, files_wait s.world p e files i w c.loop-file.taken u c.in-Err.usn so c.loop-file-test.true c.file-item.is wanted last), there)
+    let (t, so, on) = c.loop-file.invariant.ran s stands covered in
+    let wanted = said_yes c.wants.result (IsWanted t.world p u) (c.wants.ensures t on) c.if-wants.true in
+    let known = files_covered s.world t.world e files u covered so.grows (in_place files i u c.loop-file-test.true c.file-item.is) in
+    let (fetched, there) = c.in_ok-fetched.ensures.ok t on known in
+    let last = subst (FetchedFrom t e u.uid) c.in-Err.is fetched in
+    (t, (c.loop-file.taken + 0, files_wait s p e files i t c.loop-file.taken u c.in-Err.usn so c.loop-file-test.true c.file-item.is wanted last), there)
 
 pub adopt-requires-clause-may : goal.adopt-requires-clause-may
 adopt-requires-clause-may c =
@@ -44,12 +44,12 @@ adopt-requires-clause-may c =
     let u = c.file-item.result in
     let v = c.in-Ok.fetched.update in
     let (s, stands, covered) = c.requires.may in
-    let (w, so, on) = c.loop-file.invariant.ran s stands covered in
-    let wanted = said_yes c.wants.result (IsWanted w p u) (c.wants.ensures (in_world s w) on) c.if-wants.true in
-    let known = files_covered s.world w e files u covered so.grows (in_place files i u c.loop-file-test.true c.file-item.is) in
-    let (fetched, there) = c.in_ok-fetched.ensures.ok (in_world s w) on known in
-    let (file, of_file, has) = subst (FetchedFrom w e u.uid) c.in-Ok.is fetched in
-    (in_world s w, there, subst (λ n. CanTake w p n v) (sym c.loop-file.invariant.server) (file_can w p e u v known wanted file of_file))
+    let (t, so, on) = c.loop-file.invariant.ran s stands covered in
+    let wanted = said_yes c.wants.result (IsWanted t.world p u) (c.wants.ensures t on) c.if-wants.true in
+    let known = files_covered s.world t.world e files u covered so.grows (in_place files i u c.loop-file-test.true c.file-item.is) in
+    let (fetched, there) = c.in_ok-fetched.ensures.ok t on known in
+    let (file, of_file, has, (given, gives, is)) = subst (FetchedFrom t e u.uid) c.in-Ok.is fetched in
+    (t, there, subst (λ n. CanTake t.world p n v) (sym c.loop-file.invariant.server) (file_can t.world p e u v known wanted file of_file))
 
 pub adopt-requires-clause-form : goal.adopt-requires-clause-form
 adopt-requires-clause-form c =
@@ -59,10 +59,10 @@ adopt-requires-clause-form c =
     let i = c.loop-file.file-index in
     let u = c.file-item.result in
     let (s, stands, covered) = c.requires.may in
-    let (w, so, on) = c.loop-file.invariant.ran s stands covered in
-    let known = files_covered s.world w e files u covered so.grows (in_place files i u c.loop-file-test.true c.file-item.is) in
-    let (fetched, there) = c.in_ok-fetched.ensures.ok (in_world s w) on known in
-    let (file, of_file, has) = subst (FetchedFrom w e u.uid) c.in-Ok.is fetched in
+    let (t, so, on) = c.loop-file.invariant.ran s stands covered in
+    let known = files_covered s.world t.world e files u covered so.grows (in_place files i u c.loop-file-test.true c.file-item.is) in
+    let (fetched, there) = c.in_ok-fetched.ensures.ok t on known in
+    let (file, of_file, has, (given, gives, is)) = subst (FetchedFrom t e u.uid) c.in-Ok.is fetched in
     has
 
 pub returns-in-Err-2-clause-ok : goal.returns-in-Err-2-clause-ok
@@ -73,16 +73,17 @@ returns-in-Err-2-clause-ok c = λ s stands covered.
     let i = c.loop-file.file-index in
     let u = c.file-item.result in
     let v = c.in-Ok.fetched.update in
-    let (w, so, on) = c.loop-file.invariant.ran s stands covered in
-    let wanted = said_yes c.wants.result (IsWanted w p u) (c.wants.ensures (in_world s w) on) c.if-wants.true in
-    let known = files_covered s.world w e files u covered so.grows (in_place files i u c.loop-file-test.true c.file-item.is) in
-    let (fetched, there) = c.in_ok-fetched.ensures.ok (in_world s w) on known in
-    let (file, of_file, has) = subst (FetchedFrom w e u.uid) c.in-Ok.is fetched in
-    let can = subst (λ n. CanTake w p n v) (sym c.loop-file.invariant.server) (file_can w p e u v known wanted file of_file) in
-    let (next, took, after) = c.in_ok-refusal.ensures.ok (in_world s w) there can in
-    let (count, much, why, same) = subst (λ o. Took w p e v o next) c.in-Err-2.is (subst (λ n. Took w p n v c.in_ok-refusal.field-0 next) c.loop-file.invariant.server took) in
-    let cut = files_cut s.world p e files i w c.loop-file.taken u v count so c.loop-file-test.true c.file-item.is wanted file of_file much in
-    (next, (c.loop-file.taken + 0, subst (λ z. TakesFiles s.world p e files (c.loop-file.taken + 0) (Some z) next) (sym why) (subst (TakesFiles s.world p e files (c.loop-file.taken + 0) _) (sym same) cut)), after)
+    let (t, so, on) = c.loop-file.invariant.ran s stands covered in
+    let wanted = said_yes c.wants.result (IsWanted t.world p u) (c.wants.ensures t on) c.if-wants.true in
+    let known = files_covered s.world t.world e files u covered so.grows (in_place files i u c.loop-file-test.true c.file-item.is) in
+    let (fetched, there) = c.in_ok-fetched.ensures.ok t on known in
+    let (file, of_file, has, (given, gives, is)) = subst (FetchedFrom t e u.uid) c.in-Ok.is fetched in
+    let can = subst (λ n. CanTake t.world p n v) (sym c.loop-file.invariant.server) (file_can t.world p e u v known wanted file of_file) in
+    let (next, took, after) = c.in_ok-refusal.ensures.ok t given there can is in
+    let (count, much, why, same) = subst (λ o. Took t.world p e v o next) c.in-Err-2.is (subst (λ n. Took t.world p n v c.in_ok-refusal.field-0 next) c.loop-file.invariant.server took) in
+    let cut = files_cut s p e files i t c.loop-file.taken u v count so c.loop-file-test.true c.file-item.is wanted file of_file much in
+    let left : Stands c.adopt.new.self t = subst (λ z. Stands c.adopt.new.self (in_world t z)) same (subst (λ o. Stands c.adopt.new.self (after_taking t p v given o next)) c.in-Err-2.is after) in
+    (t, (c.loop-file.taken + 0, subst (λ z. TakesFiles s p e files (c.loop-file.taken + 0) (Some z) t) (sym why) cut), left)
 
 pub loop-file-preserved : goal.loop-file-preserved
 loop-file-preserved c = elim c.if-wants.branch [
@@ -110,18 +111,18 @@ loop-file-preserved c = elim c.if-wants.branch [
             let i = c.loop-file.file-index in
             let u = c.file-item.result in
             let v = b.in-Ok.fetched.update in
-            let (w, so, on) = l.ran s stands covered in
-            let wanted = said_yes c.wants.result (IsWanted w p u) (c.wants.ensures (in_world s w) on) b.if-wants.true in
-            let known = files_covered s.world w e files u covered so.grows (in_place files i u c.loop-file-test.true c.file-item.is) in
-            let (fetched, there) = b.in_ok-fetched.ensures.ok (in_world s w) on known in
-            let (file, of_file, has) = subst (FetchedFrom w e u.uid) b.in-Ok.is fetched in
-            let can = subst (λ n. CanTake w p n v) (sym l.server) (file_can w p e u v known wanted file of_file) in
-            let (next, took, after) = b.in_ok-refusal.ensures.ok (in_world s w) there can in
-            let takes = subst (λ o. Took w p e v o next) b.in_default.is (subst (λ n. Took w p n v b.in_ok-refusal.field-0 next) l.server took) in
+            let (t, so, on) = l.ran s stands covered in
+            let wanted = said_yes c.wants.result (IsWanted t.world p u) (c.wants.ensures t on) b.if-wants.true in
+            let known = files_covered s.world t.world e files u covered so.grows (in_place files i u c.loop-file-test.true c.file-item.is) in
+            let (fetched, there) = b.in_ok-fetched.ensures.ok t on known in
+            let (file, of_file, has, (given, gives, is)) = subst (FetchedFrom t e u.uid) b.in-Ok.is fetched in
+            let can = subst (λ n. CanTake t.world p n v) (sym l.server) (file_can t.world p e u v known wanted file of_file) in
+            let (next, took, after) = b.in_ok-refusal.ensures.ok t given there can is in
+            let takes = subst (λ o. Took t.world p e v o next) b.in_default.is (subst (λ n. Took t.world p n v b.in_ok-refusal.field-0 next) l.server took) in
             let sound = on.machines.scene.world.invariant in (
-              next,
-              subst (FilesSo s.world p e files (i + 1) next) (sym b.taken-is) (files_take s.world p e files i w c.loop-file.taken u v next sound.versions sound.sent so c.loop-file-test.true c.file-item.is known wanted file of_file takes),
-              subst (λ x. Stands x (in_world s next)) (sym b.self-is) after,
+              with_given t p v given next,
+              subst (FilesSo s p e files (i + 1) (with_given t p v given next)) (sym b.taken-is) (files_take s p e files i t c.loop-file.taken u v given next sound.versions sound.sent so c.loop-file-test.true c.file-item.is known wanted file of_file gives takes),
+              subst (λ x. Stands x (with_given t p v given next)) (sym b.self-is) (subst (λ o. Stands b.adopt.new.self (after_taking t p v given o next)) b.in_default.is after),
             );
       }
   | else-wants b ↦
@@ -138,9 +139,9 @@ loop-file-preserved c = elim c.if-wants.branch [
             let files = c.args.files.now in
             let i = c.loop-file.file-index in
             let u = c.file-item.result in
-            let (w, so, on) = l.ran s stands covered in
-            let never = said_no c.wants.result (IsWanted w p u) (c.wants.ensures (in_world s w) on) b.if-wants.false in
-            (w, subst (FilesSo s.world p e files (i + 1) w) (sym b.taken-is) (files_pass s.world p e files i w c.loop-file.taken u so c.loop-file-test.true c.file-item.is never), subst (λ x. Stands x (in_world s w)) (sym b.self-is) on);
+            let (t, so, on) = l.ran s stands covered in
+            let never = said_no c.wants.result (IsWanted t.world p u) (c.wants.ensures t on) b.if-wants.false in
+            (t, subst (FilesSo s p e files (i + 1) t) (sym b.taken-is) (files_pass s p e files i t c.loop-file.taken u so c.loop-file-test.true c.file-item.is never), subst (λ x. Stands x t) (sym b.self-is) on);
       }
 ]
 
@@ -148,15 +149,15 @@ pub returns-clause-ok : goal.returns-clause-ok
 returns-clause-ok c = λ s stands covered.
     let p = database_of (c.args.at + 1) in
     let e = database_of (c.args.from + 1) in
-    let (w, so, on) = c.loop-file.invariant.ran s stands covered in
-    (w, files_end s.world p e c.args.files.now c.loop-file.file-index w c.loop-file.taken so (let past = c.loop-file-test.false in omega (arith, past)), on)
+    let (t, so, on) = c.loop-file.invariant.ran s stands covered in
+    (t, files_end s p e c.args.files.now c.loop-file.file-index t c.loop-file.taken so (let past = c.loop-file-test.false in omega (arith, past)), on)
 
 pub returns-in_err-fetched-clause-err : goal.returns-in_err-fetched-clause-err
 returns-in_err-fetched-clause-err c = λ s stands covered.
     let p = database_of (c.args.at + 1) in
     let e = database_of (c.args.from + 1) in
-    let (w, so, on) = c.loop-file.invariant.ran s stands covered in
-    on_err c.from_residual.result (w, files_first s.world p e c.args.files.now c.loop-file.file-index w c.loop-file.taken so, c.in_err-fetched.ensures.err (in_world s w) on)
+    let (t, so, on) = c.loop-file.invariant.ran s stands covered in
+    on_err c.from_residual.result (t, files_first s p e c.args.files.now c.loop-file.file-index t c.loop-file.taken so, c.in_err-fetched.ensures.err t on)
 
 pub returns-in_err-refusal-clause-err : goal.returns-in_err-refusal-clause-err
 returns-in_err-refusal-clause-err c = λ s stands covered.
@@ -165,10 +166,10 @@ returns-in_err-refusal-clause-err c = λ s stands covered.
     let files = c.args.files.now in
     let i = c.loop-file.file-index in
     let u = c.file-item.result in
-    let (w, so, on) = c.loop-file.invariant.ran s stands covered in
-    let known = files_covered s.world w e files u covered so.grows (in_place files i u c.loop-file-test.true c.file-item.is) in
-    let (fetched, there) = c.in_ok-fetched.ensures.ok (in_world s w) on known in
-    on_err c.from_residual-in_err-refusal.result (w, files_first s.world p e files i w c.loop-file.taken so, c.in_err-refusal.ensures.err (in_world s w) there)
+    let (t, so, on) = c.loop-file.invariant.ran s stands covered in
+    let known = files_covered s.world t.world e files u covered so.grows (in_place files i u c.loop-file-test.true c.file-item.is) in
+    let (fetched, there) = c.in_ok-fetched.ensures.ok t on known in
+    on_err c.from_residual-in_err-refusal.result (t, files_first s p e files i t c.loop-file.taken so, c.in_err-refusal.ensures.err t there)
 
 pub returns-clause-fetched : goal.returns-clause-fetched
 returns-clause-fetched c = c.loop-file.invariant.fetched

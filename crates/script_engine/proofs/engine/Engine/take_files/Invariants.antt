@@ -1,10 +1,9 @@
 use Rattle.std.proofs.Common.{◌≡◌, ◌≤◌, ◌+◌, length}
 use Rattle.frs_base.specs.Identifiers.{database_of}
-use Rattle.world_model.specs.World.{World}
 use Rattle.script_engine.specs.Engines.{Stands, local_by_all}
 use Rattle.script_engine.specs.Histories.{Fetches}
 use Rattle.script_engine.specs.Pulls.{AreCovered}
-use Rattle.script_engine.specs.Scene.{Scene, in_world}
+use Rattle.script_engine.specs.Scene.{Scene}
 use Rattle.script_engine.proofs.Paging.{FilesSo}
 use Rattle.script_engine.proofs.engine.Engine.take_files.Given as goal
 
@@ -17,5 +16,5 @@ invariant-loop-file l = record {
   fetched : Fetches l.at l.from (database_of (l.from + 1)) l.taken l.fn.self l.self;
   server : l.server ≡ database_of (l.from + 1);
   ran : (s : Scene) → Stands l.fn.self s → AreCovered s.world (database_of (l.from + 1)) l.files
-      → (w : World) × FilesSo s.world (database_of (l.at + 1)) (database_of (l.from + 1)) l.files l.file-index w l.taken × Stands l.self (in_world s w);
+      → (t : Scene) × FilesSo s (database_of (l.at + 1)) (database_of (l.from + 1)) l.files l.file-index t l.taken × Stands l.self t;
 }

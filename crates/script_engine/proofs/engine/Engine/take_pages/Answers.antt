@@ -1,4 +1,4 @@
-use Rattle.std.proofs.Common.{◌≡◌, ◌+◌, ◌++◌, ◌∷◌, [], ◌∙◌, ap, sym, subst, length, suc, true, false, Some, None, arith}
+use Rattle.std.proofs.Common.{refl, ◌≡◌, ◌+◌, ◌++◌, ◌∷◌, [], ◌∙◌, ap, sym, subst, length, suc, true, false, Some, None, arith}
 use Rattle.frs_base.specs.Identifiers.{database_of}
 use Rattle.name_rules.specs.Tree.{is_file}
 use Rattle.world_model.specs.Rounds.{IsWanted}
@@ -7,7 +7,7 @@ use Rattle.folder_core.specs.declared.event.Event.TheVariants.{Adopt}
 use Rattle.script_engine.specs.Histories.{Adopted, Came}
 use Rattle.script_engine.specs.Replies.{taken_of}
 use Rattle.script_engine.specs.Pulling.{TakesPages}
-use Rattle.script_engine.specs.Pulls.{CanTake, Took}
+use Rattle.script_engine.specs.Pulls.{CanTake, Took, after_taking}
 use Rattle.script_engine.specs.Scene.{in_world}
 use Rattle.script_engine.proofs.Beginning.{on_err}
 use Rattle.script_engine.proofs.Paging.{PagesSo, in_place, page_can, pages_cut, pages_end, pages_first, pages_list, pages_pass, pages_take}
@@ -40,13 +40,13 @@ returns-in-Err-clause-ok c = λ s stands pages.
     let (w, so, on) = c.loop-update.invariant.ran s stands pages in
     let wanted = said_yes c.wants.result (IsWanted w p u) (c.wants.ensures (in_world s w) on) c.if-wants.true in
     let can = page_can s.world w p e page u stands.machines.scene.world.invariant.versions pages so.grows (in_place page i u c.loop-update-test.true c.update-item.is) wanted in
-    let (next, took, after) = c.in_ok-refusal.ensures.ok (in_world s w) on (subst (CanTake w p e) (sym c.in_ok-update.ensures) can) in
+    let (next, took, after) = c.in_ok-refusal.ensures.ok (in_world s w) None on (subst (CanTake w p e) (sym c.in_ok-update.ensures) can) refl in
     let (count, much, why, same) = subst (λ o. Took w p e u o next) c.in-Err.is (subst (λ v. Took w p e v c.in_ok-refusal.field-0 next) c.in_ok-update.ensures took) in
     let file : is_file u ≡ false = sym c.is_file.ensures ∙ c.if-is_file.false in
     let cut = pages_cut s.world p e page i w c.loop-update.listed.items c.loop-update.taken u count so c.loop-update-test.true c.update-item.is file much in
     let listed = c.loop-update.listed.items ++ [] in
     let taken = c.loop-update.taken + 0 in
-    (next, (listed, taken, subst (λ z. TakesPages s.world p e page listed taken (Some z) next) (sym why) (subst (TakesPages s.world p e page listed taken _) (sym same) cut)), after)
+    (next, (listed, taken, subst (λ z. TakesPages s.world p e page listed taken (Some z) next) (sym why) (subst (TakesPages s.world p e page listed taken _) (sym same) cut)), subst (λ o. Stands c.adopt.new.self (after_taking (in_world s w) p c.in_ok-update.update None o next)) c.in-Err.is after)
 
 pub loop-update-preserved : goal.loop-update-preserved
 loop-update-preserved c = elim c.if-wants.branch [
@@ -94,7 +94,7 @@ loop-update-preserved c = elim c.if-wants.branch [
             let (w, so, on) = l.ran s stands pages in
             let wanted = said_yes c.wants.result (IsWanted w p u) (c.wants.ensures (in_world s w) on) b.if-wants.true in
             let can = page_can s.world w p e page u stands.machines.scene.world.invariant.versions pages so.grows (in_place page i u c.loop-update-test.true c.update-item.is) wanted in
-            let (next, took, after) = b.in_ok-refusal.ensures.ok (in_world s w) on (subst (CanTake w p e) (sym b.in_ok-update.ensures) can) in
+            let (next, took, after) = b.in_ok-refusal.ensures.ok (in_world s w) None on (subst (CanTake w p e) (sym b.in_ok-update.ensures) can) refl in
             let takes = subst (λ o. Took w p e u o next) b.in_default.is (subst (λ v. Took w p e v b.in_ok-refusal.field-0 next) b.in_ok-update.ensures took) in
             let file : is_file u ≡ false = sym b.is_file.ensures ∙ b.if-is_file.false in
             let listed : c.if-wants.listed.items ≡ c.loop-update.listed.items = ap (λ v. v.items) b.listed-is in
@@ -102,7 +102,7 @@ loop-update-preserved c = elim c.if-wants.branch [
             let so' = pages_take s.world p e page i w c.loop-update.listed.items c.loop-update.taken u next sound.versions sound.sent so c.loop-update-test.true c.update-item.is file takes in (
               next,
               subst (λ x. PagesSo s.world p e page (i + 1) next x c.if-wants.taken) (sym listed) (subst (PagesSo s.world p e page (i + 1) next c.loop-update.listed.items) (sym b.taken-is) so'),
-              subst (λ x. Stands x (in_world s next)) (sym b.self-is) after,
+              subst (λ x. Stands x (in_world s next)) (sym b.self-is) (subst (λ o. Stands b.adopt.new.self (after_taking (in_world s w) p b.in_ok-update.update None o next)) b.in_default.is after),
             );
       }
   | else-wants b ↦
