@@ -180,7 +180,7 @@ dropped_less (Some u) forms uid form e = by (same_uid uid u.uid) e
     by true e = absurd (cc)
     by false e = e
 
-consumed_keeps : (w : World) (d moment : ℕ) (m new : Machine) (made : Option Update) → IsSoundWorld w → AreOurs w.all → MachineStands w.all (w.at d) d m → Records w d moment made
+pub consumed_keeps : (w : World) (d moment : ℕ) (m new : Machine) (made : Option Update) → IsSoundWorld w → AreOurs w.all → MachineStands w.all (w.at d) d m → Records w d moment made
     → Changed (RecordLocal m.book.consumed made) m new → (contents : Uid → List ℕ) → HoldsContents contents m → HoldsContents contents new
 consumed_keeps w d moment m new made sound ours s records changed contents h uid form e =
     let on = book_on w d moment m new made sound ours s records changed in
@@ -203,7 +203,7 @@ consumed_stands w d moment m new made sound ours s keeps records changed =
       volume = subst (λ v. Stands v x.volume) (sym changed.volume) s.volume;
     }
 
-goes_by : (w : World) (d moment : ℕ) (m new : Machine) (made : Option Update) → moment < 2 ^ 61 → IsSoundWorld w → AreOurs w.all → MachineStands w.all (w.at d) d m → IsSoundMachine new → Records w d moment made
+pub goes_by : (w : World) (d moment : ℕ) (m new : Machine) (made : Option Update) → moment < 2 ^ 61 → IsSoundWorld w → AreOurs w.all → MachineStands w.all (w.at d) d m → IsSoundMachine new → Records w d moment made
     → Changed (RecordLocal m.book.consumed made) m new → Goes w d m new (consumes w d made)
 goes_by w d moment m new made early sound ours s keeps records changed = record {
   passes = passes;
@@ -234,7 +234,7 @@ goes_by w d moment m new made early sound ours s keeps records changed = record 
 abbrev pub AreBounded : World → ℕ → Type 0
 AreBounded w moment = (moment < 2 ^ 61) × (length w.all < 2 ^ 60)
 
-widths : (w : World) (d : ℕ) (m : Machine) → MachineStands w.all (w.at d) d m → plus (covers m.book.vector) (own_version m.book m.book.consumed) ≡ widened w d
+pub widths : (w : World) (d : ℕ) (m : Machine) → MachineStands w.all (w.at d) d m → plus (covers m.book.vector) (own_version m.book m.book.consumed) ≡ widened w d
 widths w d m s = λ i. plus (covered_is (w.at d).known m.book.vector s.book.vector i) (record { db = s.own i; version = s.book.consumed i })
 
 book_takes : (w : World) (d moment : ℕ) (m : Machine) (reply : Reply) (new : Machine) (made : Option Update) → AreBounded w moment → IsSoundWorld w → AreOurs w.all → MachineStands w.all (w.at d) d m → IsSoundMachine new

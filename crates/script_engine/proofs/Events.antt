@@ -1,5 +1,5 @@
 -- What the calls of an engine do to the scene that it stands for, one event each.
-use Rattle.std.proofs.Common.{◌≡◌, ◌≢◌, ◌<◌, ◌≤◌, ◌+◌, ◌^◌, ◌⊎◌, ℕ, List, [], length, set, refl, sym, ap, ◌∙◌, subst, arith, inl, inr, Option, Some, None, Result, Ok, Err}
+use Rattle.std.proofs.Common.{◌≡◌, ◌≢◌, ◌<◌, ◌≤◌, ◌+◌, ◌-◌, ◌*◌, ◌^◌, ◌⊎◌, ℕ, List, [], length, set, refl, sym, ap, ◌∙◌, subst, arith, inl, inr, Option, Some, None, Result, Ok, Err}
 use Rattle.std.specs.Prelude.{IfOk, map, slice_get, sum_by}
 use Rattle.std.proofs.lemmas.List.Sums.{sum_by-le-sum_by}
 use Rattle.frs_base.specs.Identifiers.{database_of}
@@ -8,6 +8,7 @@ use Rattle.win_order.specs.declared.update.Update.{Update}
 use Rattle.vol_state.specs.declared.operation.LocalOp.{LocalOp}
 use Rattle.vol_state.specs.declared.operation.Refused.{Refused}
 use Rattle.vol_state.specs.State.{State}
+use Rattle.name_rules.specs.declared.step.Step.{Step as InstallStep}
 use Rattle.world_model.specs.World.{World}
 use Rattle.world_model.specs.Events.{Records, consumes}
 use Rattle.folder_core.specs.declared.event.Event.{Event}
@@ -27,9 +28,14 @@ use Rattle.script_engine.specs.Consuming.{widened}
 use Rattle.script_engine.specs.Widening.{Fits}
 use Rattle.script_engine.specs.Standing.{HaveRoom, HoldsContents, MachinesStand, local_in, recorded_in, unconsumed_in}
 use Rattle.script_engine.specs.Engines.{Answered, ConsumedNext, Operated, Stands, count_of, local_by_all, machines_of, unconsumed_by_all}
-use Rattle.script_engine.specs.Replies.{consumed_of, usn_of}
+use Rattle.script_engine.specs.Installing.{Installs, InstallsSome}
+use Rattle.script_engine.specs.Replies.{consumed_of, installed_of, usn_of}
+use Rattle.world_model.proofs.Ending.{drains_end}
+use Rattle.script_engine.proofs.Drained.{some_bound}
+use Rattle.script_engine.proofs.Gives.{scene_kept}
+use Rattle.script_engine.proofs.Stepping.{steps_at}
 use Rattle.script_engine.proofs.Journals.{local_same, recorded_less}
-use Rattle.script_engine.proofs.Pairs.{get_map, map_set, set_same, sum_set}
+use Rattle.script_engine.proofs.Pairs.{get_map, get_within, part_of, map_set, set_same, sum_set}
 use Rattle.script_engine.proofs.Advancing.{Goes, machines_on}
 use Rattle.script_engine.proofs.Scenes.{fresh_scene_sound}
 use Rattle.script_engine.proofs.Operating.{Done, Stays, operates}
@@ -190,6 +196,45 @@ consumed_on at moment reply old new s early room h names a =
       made = same_local (ap (λ (x : Machine). x.volume) full.same);
       fewer = no_fewer full.same;
     }
+
+-- ---- a step of the installer
+
+pub record InstallsAt (at : ℕ) (reply : Reply) (old new : Engine) (s : Scene) : Type 0 where
+  pub outcome : Result (Option InstallStep) Refusal
+  pub reads : installed_of reply ≡ Some outcome
+  pub after : World
+  pub installs : Installs s (database_of (at + 1)) outcome after
+  pub stands : Stands new (in_world s after)
+  pub made : local_by_all new ≡ local_by_all old
+
+pub installed_on : (at : ℕ) (reply : Reply) (old new : Engine) (s : Scene) → Stands old s → new.names ≡ old.names → Answered at event.Install reply old new → InstallsAt at reply old new s
+installed_on at reply old new s h names a =
+    let steps = steps_at s (database_of (at + 1)) a.before reply a.after (scene_kept s h.machines.scene) h.machines.ours (h.machines.each at a.before a.found) (h.machines.contents at a.before a.found) a.sound a.answers in
+    record {
+      outcome = steps.outcome;
+      reads = steps.reads;
+      after = steps.after;
+      installs = steps.installs;
+      stands = stands_on old new s at a.before a.after steps.after h names a.found a.machines steps.goes steps.keeps a.usns;
+      made = let sums = local_after old new at a.before a.after a.found a.machines in let same = steps.local in omega (arith, sums, same);
+    }
+
+-- so few steps are done before another one that one more is counted without overflow
+pub drain_few : (e : Engine) (s : Scene) (at : ℕ) (steps : List InstallStep) (w : World) (step : InstallStep) (last : World) → Stands e s → at < length (machines_of e) → local_by_all e < 2 ^ 60 → InstallsSome s (database_of (at + 1)) steps w
+    → Installs (in_world s w) (database_of (at + 1)) (Ok (Some step)) last → (length steps < 8 * local_by_all e + unconsumed_by_all e) × (length steps + 1 < 2 ^ 128)
+drain_few e s at steps w step last h within room some one =
+    let d = database_of (at + 1) in
+    let (m, found) = get_within (machines_of e) at within in
+    let stands = h.machines.each at m found in
+    let few = some_bound drains_end s d steps w h.machines.scene some step last one in
+    let next : (s.world.at d).volume.next_usn ≡ m.volume.next_usn = stands.volume.next_usn in
+    let now = stands.book.consumed in
+    let usns = h.machines.usns at m found in
+    let part = part_of unconsumed_in (machines_of e) at m found in
+    let less = sum_by-le-sum_by recorded_in local_in (machines_of e) recorded_less in
+    let counted = h.machines.counted in
+    let left : (s.world.at d).volume.next_usn - (s.world.at d).consumed ≡ unconsumed_in m = λ i. next i - sym now i in
+    (omega (arith, few, left, part, less, counted), omega (arith, few, left, usns, less, counted, room))
 
 -- ---- an event
 

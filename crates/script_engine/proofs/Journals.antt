@@ -10,7 +10,7 @@ use Rattle.vol_state.specs.Effects.{effect}
 use Rattle.vol_state.specs.Journal.{record_at}
 use Rattle.vol_state.specs.Maps.{Maps}
 use Rattle.vol_state.specs.State.{State}
-use Rattle.vol_state.specs.Tables.{IsLocal}
+use Rattle.vol_state.specs.Tables.{IsLocal, IsReplica}
 use Rattle.folder_core.specs.Machine.{Machine}
 use Rattle.script_engine.specs.Standing.{local_in, recorded_in}
 
@@ -117,5 +117,35 @@ local_one cmd old new m l is =
 pub recorded_still : (cmd : VolCmd) (old new : Machine) (m : Maps) → IsLocal m cmd → new ≡ record old { volume = effect cmd old.volume } → recorded_in old ≤ recorded_in new
 recorded_still cmd old new m l is =
     let (r, appends, local) = logs_one cmd old.volume m l in
+    let after = ap (λ (y : Machine). recorded_in y) is ∙ ap (count_by (below old.book.consumed)) appends ∙ sum_by_push (λ r. one_if (below old.book.consumed r)) old.volume.journal r in
+    omega (arith, after)
+
+-- ---- an operation of the installer
+
+-- its command appends a record that isn't local
+logs_other : (cmd : VolCmd) (own : ℕ) (v : State) (m : Maps) → IsReplica own m cmd → (r : VolRecord) × ((effect cmd v).journal ≡ v.journal ++ r ∷ []) × (r.local ≡ false)
+logs_other (PutNew parent name bytes) own v m l = absurd l
+logs_other (PutOver fid bytes) own v m l = absurd l
+logs_other (Mkdir parent name) own v m l = absurd l
+logs_other (Move fid parent name) own v m l = absurd l
+logs_other (Remove fid) own v m l = absurd l
+logs_other (Park fid) own v m l = (_, refl, refl)
+logs_other (Erase fid) own v m l = (_, refl, refl)
+logs_other (Make uid kind bytes) own v m l = (_, refl, refl)
+logs_other (Rewrite fid bytes) own v m l = (_, refl, refl)
+logs_other (Place fid parent name) own v m l = (_, refl, refl)
+
+-- so that as many are local
+pub local_kept : (cmd : VolCmd) (own : ℕ) (old new : Machine) (m : Maps) → IsReplica own m cmd → new ≡ record old { volume = effect cmd old.volume } → local_in new ≡ local_in old
+local_kept cmd own old new m l is =
+    let (r, appends, other) = logs_other cmd own old.volume m l in
+    let one = ap one_if other in
+    let after = ap (λ (y : Machine). local_in y) is ∙ ap (count_by (λ r. r.local)) appends ∙ sum_by_push (λ (r : VolRecord). one_if r.local) old.volume.journal r in
+    omega (arith, after, one)
+
+-- and what was recorded stays
+pub recorded_behind : (cmd : VolCmd) (own : ℕ) (old new : Machine) (m : Maps) → IsReplica own m cmd → new ≡ record old { volume = effect cmd old.volume } → recorded_in old ≤ recorded_in new
+recorded_behind cmd own old new m l is =
+    let (r, appends, other) = logs_other cmd own old.volume m l in
     let after = ap (λ (y : Machine). recorded_in y) is ∙ ap (count_by (below old.book.consumed)) appends ∙ sum_by_push (λ r. one_if (below old.book.consumed r)) old.volume.journal r in
     omega (arith, after)

@@ -1,5 +1,5 @@
 -- What stands at the places of a list.
-use Rattle.std.proofs.Common.{◌≡◌, ◌≢◌, ◌<◌, ◌+◌, ℕ, zero, suc, List, [], ◌∷◌, ◌++◌, length, get_or, map, set, refl, sym, ap, subst, Some, arith}
+use Rattle.std.proofs.Common.{◌≡◌, ◌≢◌, ◌<◌, ◌≤◌, ◌+◌, ℕ, zero, suc, List, [], ◌∷◌, ◌++◌, length, get_or, map, set, refl, sym, ap, subst, Some, arith}
 use Rattle.std.specs.Prelude.{insert, remove, slice_get, sum_by}
 use Rattle.std.proofs.lemmas.List.Sums.{sum_by-cons}
 
@@ -82,3 +82,9 @@ sum_set f (a ∷ xs) zero x y e =
     let same : f a ≡ f x = let is : a ≡ x = cc in ap f is in
     omega (arith, same, sum_by-cons f y xs, sum_by-cons f a xs)
 sum_set f (a ∷ xs) (suc k) x y e = omega (arith, sum_set f xs k x y e, sum_by-cons f a (set xs k y), sum_by-cons f a xs)
+
+-- an item's number is at most the sum of all
+pub part_of : {X : Type 0} (f : X → ℕ) (xs : List X) (k : ℕ) (x : X) → slice_get xs k ≡ Some x → f x ≤ sum_by f xs
+part_of f [] k x at = absurd (cc)
+part_of f (a ∷ xs) zero x at = let same : a ≡ x = cc in subst (λ y. f y ≤ sum_by f (a ∷ xs)) same (omega (arith, sum_by-cons f a xs))
+part_of f (a ∷ xs) (suc k) x at = let more = part_of f xs k x at in omega (arith, more, sum_by-cons f a xs)

@@ -1,6 +1,6 @@
 -- What lines at a member print and leave.
 use Rattle.std.proofs.Common.{◌≡◌, ◌<◌, ◌+◌, ◌++◌, ℕ, zero, suc, cond, not, ltb, List, [], ◌∷◌, length, refl, sym, ap, ◌∙◌, subst, arith, inl, Option, Some, None, Result, Ok, Err, IfOk, String, bytes_eq, MatchOption}
-use Rattle.std.specs.Prelude.{is_some, option_to_list, position, slice_get, string_bytes}
+use Rattle.std.specs.Prelude.{codes, decimal, is_some, option_to_list, position, slice_get, string_bytes}
 use Rattle.std.specs.List.{position_or_len}
 use Rattle.std.specs.declared.alloc.Global.{Global}
 use Rattle.std.proofs.lemmas.List.{length-append, length-map}
@@ -18,13 +18,18 @@ use Rattle.folder_core.specs.Replay.{Seen}
 use Rattle.script_lang.specs.declared.line.Line.{Line}
 use Rattle.script_engine.specs.declared.consumed.Consumed.{Consumed}
 use Rattle.script_engine.specs.declared.engine.Engine.{Engine}
+use Rattle.script_engine.specs.declared.names.MemberName.{MemberName}
 use Rattle.script_engine.specs.declared.refusal.Refusal.{Refusal}
-use Rattle.script_engine.specs.declared.refusal.Refusal.TheVariants.{Local, Unknown}
-use Rattle.script_engine.specs.Engines.{AtNamed, ConsumedAll, ConsumedNext, Operated, Stands}
+use Rattle.script_engine.specs.declared.refusal.Refusal.TheVariants.{Exists, Itself, Local, NotYet, Unknown, VectorFull}
+use Rattle.script_engine.specs.Engines.{AtNamed, ConsumedAll, ConsumedNext, DrainedBy, Operated, Stands}
+use Rattle.script_engine.specs.Installing.{Drains, Installs}
+use Rattle.script_engine.specs.Named.{HasName}
+use Rattle.script_engine.specs.Printed.{printed}
+use Rattle.name_rules.specs.declared.step.Step.{Step as InstallStep}
 use Rattle.script_engine.specs.Refusals.{first_refusal, refused_text, unless_named}
-use Rattle.script_engine.specs.Scene.{IsNamed, Scene, in_world, numbered, place_of}
+use Rattle.script_engine.specs.Scene.{IsNamed, Scene, in_world, members_of, numbered, place_of}
 use Rattle.script_engine.specs.Standing.{MachineStands}
-use Rattle.script_engine.specs.Text.{Acts, Changes, Consumes, Counts, Does, IsRefused, Operates, PrintsSums, PrintsTree, Shows, count_text, filled, last_text, left_by, records_text, usn_text, vector_text}
+use Rattle.script_engine.specs.Text.{Acts, Changes, Consumes, Counts, Does, DrainsAll, IsRefused, Operates, PrintsSums, PrintsTree, Shows, count_text, filled, installed_text, last_text, left_by, records_text, usn_text, vector_text}
 use Rattle.script_engine.specs.Trees.{IsTreeOf, Row, files_of, sums_text, tree_text}
 use Rattle.script_engine.specs.Widening.{IsVectorOf}
 use Rattle.script_engine.proofs.Consumption.{maps_are}
@@ -136,6 +141,36 @@ change_cut s name d operation moment usn why put w (cmd, resolves, step, is) (do
 pub change_refused : (s : Scene) (name : List ℕ) (d : ℕ) (operation : LocalOp) (moment : ℕ) (why : Refused) (w : World) → Operated s.world d operation (Err why) w
     → Changes s name d operation moment (refused_text (Local why)) (in_world s w)
 change_refused s name d operation moment why w (resolves, same) = (Err why, resolves, (refl, ap (in_world s) same))
+
+-- ---- the installer
+
+-- a refusal of a step has no name
+pub installed_named : (s : Scene) (d : ℕ) (why : Refusal) (w : World) → Installs s d (Err why) w → HasName why
+installed_named s d (NotYet usn) w h = tt
+installed_named s d (VectorFull count) w h = tt
+installed_named s d (Unknown name) w (bad, same) = absurd bad
+installed_named s d (Exists name) w (bad, same) = absurd bad
+installed_named s d Itself w (bad, same) = absurd bad
+installed_named s d (Local why) w (bad, same) = absurd bad
+
+drains_named : (s : Scene) (d : ℕ) (steps : List InstallStep) (why : Refusal) (w : World) → Drains s d steps (Some why) w → HasName why
+drains_named s d [] why w h = installed_named s d why w h
+drains_named s d (step ∷ steps) why w (mid, one, more) = drains_named (in_world s mid) d steps why w more
+
+pub drained_named : (s : Scene) (d : ℕ) (why : Refusal) (w : World) → DrainedBy s d (Err why) w → HasName why
+drained_named s d why w (steps, drains) = drains_named s d steps why w drains
+
+-- what a step prints, by the members' names
+pub installed_said : {E : Type 0} (e : Engine) (s : Scene) (w : World) (name : List ℕ) (outcome : Result (Option InstallStep) Refusal) (r : Result (String Global) E) (names : List MemberName) → Stands e (in_world s w) → names ≡ e.names.items
+    → IfOk r (λ text. string_bytes text ≡ installed_text names name outcome) → IfOk r (λ text. string_bytes text ≡ installed_text (members_of s) name outcome)
+installed_said e s w name outcome r names h same said = subst (λ ns. IfOk r (λ text. string_bytes text ≡ installed_text ns name outcome)) (same ∙ h.names) said
+
+-- so many steps were done
+pub drained_done : (s : Scene) (d many : ℕ) (w : World) → DrainedBy s d (Ok many) w → DrainsAll s d (printed (codes "drained" ∷ decimal many ∷ [])) (in_world s w)
+drained_done s d many w (steps, drains, count) = (steps, None, w, drains, ap (λ n. printed (codes "drained" ∷ decimal n ∷ [])) (sym count), refl)
+
+pub drained_cut : (s : Scene) (d : ℕ) (why : Refusal) (w : World) → DrainedBy s d (Err why) w → DrainsAll s d (refused_text why) (in_world s w)
+drained_cut s d why w (steps, drains) = (steps, Some why, w, drains, refl, refl)
 
 -- ---- what a member has
 

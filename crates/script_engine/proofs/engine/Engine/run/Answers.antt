@@ -1,4 +1,4 @@
-use Rattle.std.proofs.Common.{◌≡◌, ◌∙◌, [], ap, sym, subst, refl, IfOk, OnErr}
+use Rattle.std.proofs.Common.{◌≡◌, ◌∙◌, List, [], Some, Ok, ap, sym, subst, refl, IfOk, OnErr}
 use Rattle.std.specs.Prelude.{string_bytes}
 use Rattle.std.proofs.lemmas.Result.{on_err_weaker}
 use Rattle.vol_state.specs.declared.operation.LocalOp.TheVariants as op
@@ -6,9 +6,11 @@ use Rattle.script_lang.specs.declared.line.Line.TheVariants as lines
 use Rattle.script_engine.specs.declared.consumed.Consumed.{Consumed}
 use Rattle.script_engine.specs.Begun.{Begins, BeginsAt, BeginsChange, OperatesOnce}
 use Rattle.script_engine.specs.Consuming.{ConsumesOne}
+use Rattle.name_rules.specs.declared.step.Step.{Step}
 use Rattle.script_engine.specs.Engines.{Stands}
+use Rattle.script_engine.specs.Installing.{Installs, InstallsSome}
 use Rattle.script_engine.specs.Scene.{Scene}
-use Rattle.script_engine.specs.Text.{Changes, Consumes, Counts, Does, Operates, PrintsSums, PrintsTree, Shows, filled}
+use Rattle.script_engine.specs.Text.{Changes, Consumes, Counts, Does, DrainsAll, InstallsNext, Operates, PrintsSums, PrintsTree, Shows, filled}
 use Rattle.script_engine.proofs.Beginning.{line_begun, nothing_begun, on_err}
 use Rattle.script_engine.proofs.Speaking.{named_line, printed_line}
 use Rattle.script_engine.proofs.engine.Engine.run.Goals as goal
@@ -157,3 +159,27 @@ returns-in-Sums-clause-err c = λ s stands. on_err c.sums.result (s, nothing_beg
 
 pub returns-in-Count-clause-err : goal.returns-in-Count-clause-err
 returns-in-Count-clause-err c = λ s stands. on_err c.count.result (s, nothing_begun s c.args.line.now, stands)
+
+pub returns-in-Install-clause-ok : goal.returns-in-Install-clause-ok
+returns-in-Install-clause-ok c = λ s stands.
+    let name = c.as_slice-in-Install.result.now in
+    named_line s (lines.Install name) c.args.line.now name (λ d said after. InstallsNext s name d said after) c.install_line.result c.install_line.new.self
+    (ap lines.Install c.as_slice-in-Install.ensures ∙ sym c.in-Install.is) refl refl (λ d text new named o. (d, named, o)) (c.install_line.ensures.ok s stands)
+
+pub returns-in-Install-clause-err : goal.returns-in-Install-clause-err
+returns-in-Install-clause-err c = λ s stands.
+    let name = c.as_slice-in-Install.result.now in
+    line_begun s (lines.Install name) c.args.line.now (λ new. BeginsAt s name (λ d w. (step : Step) × Installs s d (Ok (Some step)) w) new) c.install_line.result c.install_line.new.self
+    (ap lines.Install c.as_slice-in-Install.ensures ∙ sym c.in-Install.is) (λ new b. b) (c.install_line.ensures.err s stands)
+
+pub returns-in-Drain-clause-ok : goal.returns-in-Drain-clause-ok
+returns-in-Drain-clause-ok c = λ s stands.
+    let name = c.as_slice-in-Drain.result.now in
+    named_line s (lines.Drain name) c.args.line.now name (λ d said after. DrainsAll s d said after) c.drain_line.result c.drain_line.new.self
+    (ap lines.Drain c.as_slice-in-Drain.ensures ∙ sym c.in-Drain.is) refl refl (λ d text new named o. (d, named, o)) (c.drain_line.ensures.ok s stands)
+
+pub returns-in-Drain-clause-err : goal.returns-in-Drain-clause-err
+returns-in-Drain-clause-err c = λ s stands.
+    let name = c.as_slice-in-Drain.result.now in
+    line_begun s (lines.Drain name) c.args.line.now (λ new. BeginsAt s name (λ d w. (steps : List Step) × InstallsSome s d steps w) new) c.drain_line.result c.drain_line.new.self
+    (ap lines.Drain c.as_slice-in-Drain.ensures ∙ sym c.in-Drain.is) (λ new b. b) (c.drain_line.ensures.err s stands)
