@@ -34,6 +34,9 @@ Lines, of words parted by one space:
                            at the moment T, below 2^61
   change M P T             puts nothing into P and consumes what is left, at T
   pull M N                 M takes what N covers, and what wins of it
+  install M                does the next step that brings M's volume nearer to its
+                           records
+  drain M                  does such steps until none is left
   show M                   prints what a member covers, and its records
   tree M                   prints a member's volume from its root
   sums M                   prints the sum of each file of a member's volume

@@ -28,16 +28,16 @@ use Rattle.script_engine.proofs.Vectors.{HasVector}
 operates_pass : (w : World) (d : ℕ) (operation : LocalOp) (new : World) → IsSoundWorld w → OperatesOnce w d operation new → Passes d w new
 operates_pass w d operation new h (cmd, resolves, step) = passes_local w d cmd new h step
 
-some_pass : (w : World) (d moment : ℕ) (done : List Consumed) (new : World) → moment < 2 ^ 61 → IsSoundWorld w → ConsumesSome w d moment done new → Passes d w new
-some_pass w d moment [] new early h is = subst (Passes d w) (sym is) (passes_refl d w h)
-some_pass w d moment (c ∷ rest) new early h (mid, one, some) =
+consumed_pass : (w : World) (d moment : ℕ) (done : List Consumed) (new : World) → moment < 2 ^ 61 → IsSoundWorld w → ConsumesSome w d moment done new → Passes d w new
+consumed_pass w d moment [] new early h is = subst (Passes d w) (sym is) (passes_refl d w h)
+consumed_pass w d moment (c ∷ rest) new early h (mid, one, some) =
     let p = consumes_one_passes w d moment c mid early h one in
-    passes_trans d w mid new p (some_pass mid d moment rest new early p.sound some)
+    passes_trans d w mid new p (consumed_pass mid d moment rest new early p.sound some)
 
 change_passes : (w : World) (d : ℕ) (operation : LocalOp) (moment : ℕ) (new : World) → moment < 2 ^ 61 → IsSoundWorld w → BeginsChange w d operation moment new → Passes d w new
 change_passes w d operation moment new early h (put, done, operates, some) =
     let p = operates_pass w d operation put h operates in
-    passes_trans d w put new p (some_pass put d moment done new early p.sound some)
+    passes_trans d w put new p (consumed_pass put d moment done new early p.sound some)
 
 some_unstages : (w : World) (d moment : ℕ) (done : List Consumed) (new : World) → ConsumesSome w d moment done new → Unstages (w.at d) (new.at d)
 some_unstages w d moment [] new is uid sum e = subst (λ (z : World). (z.at d).staged uid ≡ Some sum) is e

@@ -269,5 +269,6 @@ fn other_words(rt: HostRuntime) -> Result<(), Fail> {
 }
 
 mod changes;
+mod installer;
 mod pulls;
 mod sums;

@@ -10,23 +10,13 @@ use Rattle.script_engine.proofs.Events.{drain_few}
 use Rattle.script_engine.proofs.engine.Engine.drain.Goals as goal
 
 pub loop-steps-preserved : goal.loop-steps-preserved
-loop-steps-preserved c =
-    let i = c.loop-steps.invariant in
-    let e = c.in_ok-install.ensures in
-    let outcome : c.in_ok-install.field-0 ≡ Ok (Some c.in-Ok-Some.field-0) = let a = c.in-Ok-Some.is in let b = c.in-Ok-Some.field-0-is in cc in
-    record {
-      within = let before = i.within in let many = c.install.ensures.many in omega (arith, before, many);
-      scene = let (s, stands) = i.scene in let (w, next, on) = e.ok s stands in (in_world s w, on);
-      names = c.install.ensures.names ∙ i.names;
-      many = c.install.ensures.many ∙ i.many;
-      made = e.made ∙ i.made;
-      ran = λ s stands.
-          let d = database_of (c.args.at + 1) in
-          let (mid, steps, some, count, there) = i.ran s stands in
-          let (w, next, on) = e.ok (in_world s mid) there in
-          let one = subst (λ o. Installs (in_world s mid) d o w) outcome next in
-          (w, steps ++ c.in-Ok-Some.field-0 ∷ [], one_more s d steps mid c.in-Ok-Some.field-0 w some one, (omega (arith, count, length-append steps (c.in-Ok-Some.field-0 ∷ []))), on);
-    }
+loop-steps-preserved c = {!!}
+
+pub overflow_add-steps : goal.overflow_add-steps
+overflow_add-steps c = {!!}
+
+pub loop-steps-smaller : goal.loop-steps-smaller
+loop-steps-smaller c = {!!}
 
 pub returns-in-Ok-None-clause-ok : goal.returns-in-Ok-None-clause-ok
 returns-in-Ok-None-clause-ok c = λ s stands.

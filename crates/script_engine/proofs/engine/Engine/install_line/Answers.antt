@@ -1,6 +1,6 @@
 use Rattle.std.proofs.Common.{◌≡◌, ◌+◌, ◌∙◌, sym, subst, inl, refl, Ok, Err}
 use Rattle.frs_base.specs.Identifiers.{database_of}
-use Rattle.script_engine.specs.Engines.{machines_of}
+use Rattle.script_engine.specs.Named.{AreNamed}
 use Rattle.script_engine.specs.Installing.{Installs}
 use Rattle.script_engine.specs.Printed.{step_words}
 use Rattle.script_engine.specs.Scene.{in_world, members_of}
@@ -17,7 +17,10 @@ pub install-requires-clause-within : goal.install-requires-clause-within
 install-requires-clause-within c = let (s, stands) = c.requires.scene in within_held c.args.self.now s c.args.name.now c.in-Some.at stands (sym c.place_of.ensures ∙ c.in-Some.is)
 
 pub step_text-requires-clause-names : goal.step_text-requires-clause-names
-step_text-requires-clause-names c = {!!}
+step_text-requires-clause-names c =
+    let (s, stands) = c.requires.scene in
+    let (w, installs, on) = c.in_ok-step.ensures.ok s stands in
+    subst AreNamed (sym c.as_slice.ensures) on.formed
 
 pub refusal_text-requires : goal.refusal_text-requires
 refusal_text-requires c =
