@@ -30,7 +30,6 @@ use Rattle.script_engine.specs.Standing.{HaveRoom, HoldsContents, MachinesStand,
 use Rattle.script_engine.specs.Engines.{Answered, ConsumedNext, Operated, Stands, count_of, local_by_all, machines_of, unconsumed_by_all}
 use Rattle.script_engine.specs.Installing.{Installs, InstallsSome}
 use Rattle.script_engine.specs.Replies.{consumed_of, installed_of, usn_of}
-use Rattle.world_model.proofs.Ending.{drains_end}
 use Rattle.script_engine.proofs.Drained.{some_bound}
 use Rattle.script_engine.proofs.Gives.{scene_kept}
 use Rattle.script_engine.proofs.Stepping.{steps_at}
@@ -226,7 +225,7 @@ drain_few e s at steps w step last h within room some one =
     let d = database_of (at + 1) in
     let (m, found) = get_within (machines_of e) at within in
     let stands = h.machines.each at m found in
-    let few = some_bound drains_end s d steps w h.machines.scene some step last one in
+    let few = some_bound s d steps w h.machines.scene some step last one in
     let next : (s.world.at d).volume.next_usn ≡ m.volume.next_usn = stands.volume.next_usn in
     let now = stands.book.consumed in
     let usns = h.machines.usns at m found in

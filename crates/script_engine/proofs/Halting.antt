@@ -15,7 +15,7 @@ use Rattle.script_engine.specs.Scripts.{BeginningsKeepScenesSound}
 use Rattle.script_engine.specs.Sound.{IsSoundScene, IsSoundWorld}
 use Rattle.script_engine.specs.Text.{filled}
 use Rattle.script_engine.proofs.Passing.{Passes, consumes_one_passes, passes_local, passes_refl, passes_trans}
-use Rattle.script_engine.proofs.Drained.{some_pass, some_stage}
+use Rattle.script_engine.proofs.Drained.{some_passes, some_stages}
 use Rattle.script_engine.proofs.Gives.{IsKept, scene_kept}
 use Rattle.script_engine.proofs.Installed.{installs_pass, installs_stage}
 use Rattle.script_engine.proofs.Leading.{Leads, Unstages, leads_by, leads_kept, leads_trans}
@@ -98,7 +98,7 @@ begins_keep s (lines.Consume name moment) new h form b = at_passes s name _ new 
 begins_keep s (lines.Change name path moment) new h form b = at_passes s name _ new h (λ d w c. change_passes s.world d (op.Put path []) moment w form.2 h.world c) (λ d w c. change_unstages s.world d (op.Put path []) moment w c) b
 begins_keep s (lines.Pull name other) new h form b = pull_well s name other new h b
 begins_keep s (lines.Install name) new h form b = at_passes s name _ new h (λ d w (step, installs). installs_pass s d (Ok (Some step)) w h.world installs) (λ d w (step, installs). installs_stage s d (Ok (Some step)) w h.world installs) b
-begins_keep s (lines.Drain name) new h form b = at_passes s name _ new h (λ d w (steps, some). some_pass s d steps w h.world some) (λ d w (steps, some). some_stage s d steps w h.world some) b
+begins_keep s (lines.Drain name) new h form b = at_passes s name _ new h (λ d w (steps, some). some_passes s d steps w h.world some) (λ d w (steps, some). some_stages s d steps w h.world some) b
 begins_keep s (lines.Show name) new h form is = stays s new h is
 begins_keep s (lines.Tree name) new h form is = stays s new h is
 begins_keep s (lines.Sums name) new h form is = stays s new h is

@@ -25,13 +25,15 @@ use Rattle.name_rules.specs.declared.step.Step.TheVariants.{Park, Erase, Make, R
 use Rattle.name_rules.proofs.Parents.{parent_is, parent_root}
 use Rattle.name_rules.proofs.Showing.{shown_record}
 use Rattle.world_model.specs.World.{Member, World, IsRecordOf, with_member}
-use Rattle.world_model.specs.Events.{Records, Step, Install, Unstage as UnstageEvent, consumed_by, consumes, operated, unstaged_at}
+use Rattle.world_model.specs.Events.{Records, consumed_by, consumes, operated, unstaged_at}
 use Rattle.world_model.specs.Folder.{AreStaged as StagesContents, GivesStaged as GivesContents}
 use Rattle.world_model.specs.Invariant.{Invariant}
-use Rattle.world_model.specs.Laws.{IsAnswerAt, IsDone, MembersHaveOneAnswer, QuietMembersGoOn}
+use Rattle.world_model.specs.Laws.{IsAnswerAt, IsDone}
 use Rattle.world_model.proofs.Changing.{at_same}
 use Rattle.world_model.proofs.Due.{passes}
 use Rattle.world_model.proofs.Facts.{none_some, some_is}
+use Rattle.world_model.proofs.Next.{drained_members_have_none, next_steps_are_one, quiet_members_go_on}
+use Rattle.world_model.proofs.Pending.{members_have_one_answer}
 use Rattle.world_model.proofs.Progress.{HasHome, home, member_at, step_fits}
 use Rattle.script_engine.specs.Sound.{AreStaged, IsSoundScene, IsSoundWorld}
 use Rattle.script_engine.specs.Scene.{Scene}
@@ -282,46 +284,36 @@ step_some s d (Place uid) h staged answer turn =
     let (new, does) = operates s d (Place uid) h.invariant staged answer turn (place_some s d uid h.invariant turn answer.1.candidate) in
     (Ok (Some (Place uid)), new, (answer, does))
 
--- ---- by the laws of answers
+-- ---- what comes of asking
 
-do_is : (a b : InstallStep) → next.Do a ≡ next.Do b → a ≡ b
-do_is a b e = cc
+answer_one : (w : World) (d : ℕ) (a b : InstallNext) → Invariant w → IsAnswerAt w d a → IsAnswerAt w d b → a ≡ b
+answer_one w d a b h p q = let (next, is, one) = members_have_one_answer w h d in one a p ∙ sym (one b q)
 
-drained_not : (step : InstallStep) → next.Drained ≡ next.Do step → ⊥
-drained_not step e = cc
+-- what comes of asking for the next step is one; of a sound world, whatever is staged
+pub outcome_one : (s : Scene) (d : ℕ) (a b : Result (Option InstallStep) Refusal) (m n : World) → IsSoundWorld s.world → Installs s d a m → Installs s d b n → (a ≡ b) × (m ≡ n)
+outcome_one s d a b m n h p q =
+    let (answer, is, first) = follows s d a m p in
+    let (other, is', second) = follows s d b n q in
+    follows_one s d answer a b m n h.invariant first (subst (λ x. Follows s d x b n) (answer_one s.world d other answer h.invariant is' is) second)
 
-module _ (answers : MembersHaveOneAnswer) where
-  answer_one : (w : World) (d : ℕ) (a b : InstallNext) → Invariant w → IsAnswerAt w d a → IsAnswerAt w d b → a ≡ b
-  answer_one w d a b h p q = let (next, is, one) = answers w h d in one a p ∙ sym (one b q)
+pub installs_one : (s : Scene) (d : ℕ) (a b : Result (Option InstallStep) Refusal) (m n : World) → IsSoundScene s → Installs s d a m → Installs s d b n → (a ≡ b) × (m ≡ n)
+installs_one s d a b m n h p q = outcome_one s d a b m n h.world p q
 
-  -- of a sound world, whatever is staged
-  pub outcome_one : (s : Scene) (d : ℕ) (a b : Result (Option InstallStep) Refusal) (m n : World) → IsSoundWorld s.world → Installs s d a m → Installs s d b n → (a ≡ b) × (m ≡ n)
-  outcome_one s d a b m n h p q =
-      let (answer, is, first) = follows s d a m p in
-      let (other, is', second) = follows s d b n q in
-      follows_one s d answer a b m n h.invariant first (subst (λ x. Follows s d x b n) (answer_one s.world d other answer h.invariant is' is) second)
+-- the turn of the next step has come
+pub turn_at : (w : World) (d : ℕ) (step : InstallStep) → Invariant w → IsAnswerAt w d (next.Do step) → IsTurn (IsRecordOf w d) d (w.at d).volume (w.at d).staged step
+turn_at w d step h (quiet, first) = elim (quiet_members_go_on w h d quiet) [
+  | inl drained ↦ absurd (drained_members_have_none w h d drained step first)
+  | inr (other, is, turn) ↦ subst (IsTurn (IsRecordOf w d) d (w.at d).volume (w.at d).staged) (next_steps_are_one w d other step is first) turn
+]
 
-  -- what comes of asking for the next step is one
-  pub installs_one : (s : Scene) (d : ℕ) (a b : Result (Option InstallStep) Refusal) (m n : World) → IsSoundScene s → Installs s d a m → Installs s d b n → (a ≡ b) × (m ≡ n)
-  installs_one s d a b m n h p q = outcome_one s d a b m n h.world p q
+-- something comes of it, where the world is sound, and what is staged at the member has the sums that it says
+pub outcome_some : (s : Scene) (d : ℕ) → IsSoundWorld s.world → AreStaged (s.world.at d) (s.contents d) → SomeInstall s d
+outcome_some s d h staged = let (answer, is, one) = members_have_one_answer s.world h.invariant d in by answer is
+  where
+    by : (answer : InstallNext) → IsAnswerAt s.world d answer → SomeInstall s d
+    by next.Drained is = (Ok None, s.world, (is, refl))
+    by (next.NotYet usn) is = (Err (NotYet usn), s.world, (is, refl))
+    by (next.Do step) is = step_some s d step h staged is (turn_at s.world d step h.invariant is)
 
-module _ (answers : MembersHaveOneAnswer) (go_on : QuietMembersGoOn) where
-  -- the turn of the next step has come
-  pub turn_at : (w : World) (d : ℕ) (step : InstallStep) → Invariant w → IsAnswerAt w d (next.Do step) → IsTurn (IsRecordOf w d) d (w.at d).volume (w.at d).staged step
-  turn_at w d step h (quiet, first) = elim (go_on w h d quiet) [
-    | inl drained ↦ absurd (drained_not step (answer_one answers w d next.Drained (next.Do step) h drained (quiet, first)))
-    | inr (other, is, turn) ↦ subst (IsTurn (IsRecordOf w d) d (w.at d).volume (w.at d).staged) (do_is other step (answer_one answers w d (next.Do other) (next.Do step) h (quiet, is) (quiet, first))) turn
-  ]
-
-  -- where the world is sound, and what is staged at the member has the sums that it says
-  pub outcome_some : (s : Scene) (d : ℕ) → IsSoundWorld s.world → AreStaged (s.world.at d) (s.contents d) → SomeInstall s d
-  outcome_some s d h staged = let (answer, is, one) = answers s.world h.invariant d in by answer is
-    where
-      by : (answer : InstallNext) → IsAnswerAt s.world d answer → SomeInstall s d
-      by next.Drained is = (Ok None, s.world, (is, refl))
-      by (next.NotYet usn) is = (Err (NotYet usn), s.world, (is, refl))
-      by (next.Do step) is = step_some s d step h staged is (turn_at s.world d step h.invariant is)
-
-  -- something comes of asking for the next step
-  pub installs_some : (s : Scene) (d : ℕ) → IsSoundScene s → (outcome : Result (Option InstallStep) Refusal) × (new : World) × Installs s d outcome new
-  installs_some s d h = outcome_some s d h.world (h.staged d)
+pub installs_some : (s : Scene) (d : ℕ) → IsSoundScene s → (outcome : Result (Option InstallStep) Refusal) × (new : World) × Installs s d outcome new
+installs_some s d h = outcome_some s d h.world (h.staged d)

@@ -28,7 +28,6 @@ use Rattle.script_engine.specs.Pulling.{Pulls}
 use Rattle.script_engine.specs.Trees.{files_of, sums_text, tree_text}
 use Rattle.script_engine.specs.Text.{Acts, Changes, Consumes, Counts, DrainsAll, InstallsNext, IsRefused, Operates, PrintsSums, PrintsTree, Run, Shows, count_text, filled, installed_text, last_text, left_by, text_unless, usn_text}
 use Rattle.script_engine.specs.Scripts.{LinesPrintOneText, OneText, RunsPrintOneText}
-use Rattle.world_model.proofs.Pending.{members_have_one_answer}
 use Rattle.script_engine.proofs.Drained.{drains_one}
 use Rattle.script_engine.proofs.Gives.{scene_kept}
 use Rattle.script_engine.proofs.Installed.{installs_one}
@@ -120,12 +119,12 @@ counts_one s d a b (vector, records, rows, v, l, is, said) (vector', records', r
 
 installed_one : (s : Scene) (name : List ℕ) (d : ℕ) (a b : List ℕ) (m n : Scene) → IsSoundScene s → InstallsNext s name d a m → InstallsNext s name d b n → Alike a b m n
 installed_one s name d a b m n h (outcome, w, installs, said, is) (outcome', w', installs', said', is') =
-    let (same, world) = installs_one members_have_one_answer s d outcome outcome' w w' h installs installs' in
+    let (same, world) = installs_one s d outcome outcome' w w' h installs installs' in
     (said ∙ ap (installed_text (members_of s) name) same ∙ sym said', is ∙ ap (in_world s) world ∙ sym is')
 
 drained_one : (s : Scene) (d : ℕ) (a b : List ℕ) (m n : Scene) → IsSoundScene s → DrainsAll s d a m → DrainsAll s d b n → Alike a b m n
 drained_one s d a b m n h (steps, why, w, drains, said, is) (steps', why', w', drains', said', is') =
-    let (same, refusal, world) = drains_one members_have_one_answer s d steps steps' why why' w w' h drains drains' in
+    let (same, refusal, world) = drains_one s d steps steps' why why' w w' h drains drains' in
     (said ∙ (λ i. text_unless (refusal i) (printed (codes "drained" ∷ decimal (length (same i)) ∷ []))) ∙ sym said', is ∙ ap (in_world s) world ∙ sym is')
 
 -- ---- lines

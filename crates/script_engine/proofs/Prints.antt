@@ -28,9 +28,6 @@ use Rattle.script_engine.specs.Trees.{IsTreeOf, Row, files_of, sums_text, tree_t
 use Rattle.script_engine.specs.Text.{Acts, Changes, Consumes, Does, DrainsAll, InstallsNext, IsRefused, Operates, count_text, filled, installed_text, last_text, left_by, text_unless, usn_text}
 use Rattle.script_engine.specs.Scripts.{EveryLinePrints}
 use Rattle.script_engine.proofs.Going.{consumes_all_some, consumes_next_some, pulls_some}
-use Rattle.world_model.proofs.Ending.{drains_end}
-use Rattle.world_model.proofs.Next.{quiet_members_go_on}
-use Rattle.world_model.proofs.Pending.{members_have_one_answer}
 use Rattle.script_engine.proofs.Drained.{drains_some}
 use Rattle.script_engine.proofs.Gives.{scene_kept}
 use Rattle.script_engine.proofs.Installed.{installs_some}
@@ -132,9 +129,9 @@ acts_some s (lines.Pull name other) h form e =
     let (taken, why, new, pulls) = pulls_some s p q (scene_kept s h) apart in
     (text_unless why (printed (codes "pulled" ∷ decimal taken ∷ [])), new, (p, q, taken, why, at, from, pulls, refl))
 acts_some s (lines.Install name) h form e =
-    by_name s name (λ d. InstallsNext s name d) e (λ d. let (outcome, w, installs) = installs_some members_have_one_answer quiet_members_go_on s d h in (installed_text (members_of s) name outcome, in_world s w, (outcome, w, installs, refl, refl)))
+    by_name s name (λ d. InstallsNext s name d) e (λ d. let (outcome, w, installs) = installs_some s d h in (installed_text (members_of s) name outcome, in_world s w, (outcome, w, installs, refl, refl)))
 acts_some s (lines.Drain name) h form e =
-    by_name s name (λ d. DrainsAll s d) e (λ d. let (steps, why, w, drains) = drains_some members_have_one_answer quiet_members_go_on drains_end s d h in (text_unless why (printed (codes "drained" ∷ decimal (length steps) ∷ [])), in_world s w, (steps, why, w, drains, refl, refl)))
+    by_name s name (λ d. DrainsAll s d) e (λ d. let (steps, why, w, drains) = drains_some s d h in (text_unless why (printed (codes "drained" ∷ decimal (length steps) ∷ [])), in_world s w, (steps, why, w, drains, refl, refl)))
 acts_some s (lines.Show name) h form e =
     let (d, named) = named_some s name e in
     let (vector, v) = h.world.vectors d in

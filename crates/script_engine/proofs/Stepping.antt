@@ -32,8 +32,6 @@ use Rattle.name_rules.proofs.Showing.{AreSame, same_back, shown_same}
 use Rattle.world_model.specs.World.{Member, World, IsRecordOf, with_member}
 use Rattle.world_model.specs.Events.{Install, Records, Step, Unstage as UnstageEvent, consumes, operated, unstaged_at}
 use Rattle.world_model.proofs.Changing.{at_same}
-use Rattle.world_model.proofs.Next.{quiet_members_go_on}
-use Rattle.world_model.proofs.Pending.{members_have_one_answer}
 use Rattle.world_model.proofs.Progress.{member_at, step_fits}
 use Rattle.world_model.specs.Laws.{IsAnswerAt}
 use Rattle.folder_core.specs.Books.{Changed, Takes}
@@ -91,10 +89,13 @@ drained_same same own m staged consumed h = record {
 
 -- the same records give the same answer
 answer_same : {R S : Update → Type 0} → AreSame R S → (own : ℕ) (m : Maps) (staged : Uid → Option Sum) (consumed : ℕ) (answer : Next) → IsAnswer R own m staged consumed answer → IsAnswer S own m staged consumed answer
-answer_same same own m staged consumed (next.Do step) (quiet, n) = (quiet, record {
-  candidate = candidate_same same own m staged consumed step n.candidate;
-  first = λ other c. n.first other (candidate_same (same_back same) own m staged consumed other c);
-})
+answer_same same own m staged consumed (next.Do step) (quiet, n) = (
+  quiet,
+  record {
+    candidate = candidate_same same own m staged consumed step n.candidate;
+    first = λ other c. n.first other (candidate_same (same_back same) own m staged consumed other c);
+  },
+)
 answer_same same own m staged consumed next.Drained h = drained_same same own m staged consumed h
 answer_same same own m staged consumed (next.NotYet usn) h = h
 
@@ -272,7 +273,7 @@ stays s d m reply new outcome sound stands reads same installs = record {
 operation_steps : (s : Scene) (d : ℕ) (step : InstallStep) (m : Machine) (reply : Reply) (new : Machine) → IsKept s → MachineStands s.world.all (s.world.at d) d m → HoldsContents (s.contents d) m → IsSoundMachine new
     → IsAnswerAt s.world d (next.Do step) → ((w : World) → OperatesStep s d step w → DoesStep s d step w) → InstallsAt step m reply new → Steps s d m reply new
 operation_steps s d step m reply new h stands holds keeps answer does (op, is_op, said, is) =
-    let turn = turn_at members_have_one_answer quiet_members_go_on s.world d step h.world.invariant answer in
+    let turn = turn_at s.world d step h.world.invariant answer in
     let gives = gives_at s d m step op stands holds is_op.of_step is_op.contents in
     let of_step = operation_at s.world d m step op stands is_op.of_step in
     let (due, may) = step_fits (λ u. In u s.world.all) (IsRecordOf s.world d) d (s.world.at d) (member_at s.world h.world.invariant d) answer.0 step op turn answer.1.candidate of_step (gives_contents s d op (h.staged d) gives) in

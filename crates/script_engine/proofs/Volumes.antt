@@ -136,7 +136,7 @@ free_is w d v h up numbered own s =
         omega (arith, born, last, tag, e)
 
 -- lists that rise and are numbered are a volume's
-lists_are : (w : World) (d : ℕ) (v : State) → Invariant w → AreRising 0 v.objects → IsNumbered v → v.own ≡ d → Stands v (w.at d).volume → AreLists d (w.at d).volume v
+pub lists_are : (w : World) (d : ℕ) (v : State) → Invariant w → AreRising 0 v.objects → IsNumbered v → v.own ≡ d → Stands v (w.at d).volume → AreLists d (w.at d).volume v
 lists_are w d v h up numbered own s = record {
   valid = volume_is d (w.at d).consumed v (w.at d).volume (h.members d).places (h.members d).numbers (h.sums.objects d) up own s;
   free = free_is w d v h up numbered own s;
@@ -147,19 +147,19 @@ lists_are w d v h up numbered own s = record {
 
 -- ---- a local operation
 
-numbered_logged : (v : State) (objects : List Object) (next_fid fid : ℕ) (uid : Uid) (op : ℕ) (local : Bool) → IsNumbered v → IsNumbered (logged fid uid op local (record v { objects = objects; next_fid = next_fid }))
+pub numbered_logged : (v : State) (objects : List Object) (next_fid fid : ℕ) (uid : Uid) (op : ℕ) (local : Bool) → IsNumbered v → IsNumbered (logged fid uid op local (record v { objects = objects; next_fid = next_fid }))
 numbered_logged v objects next_fid fid uid op local h = record {
   run = run_push 9 v.journal (record { usn = v.next_usn; fid = fid; uid = uid; op = op; local = local }) h.run h.next;
   next = omega (arith, h.next, length-append v.journal (record { usn = v.next_usn; fid = fid; uid = uid; op = op; local = local } ∷ []));
 }
 
 -- what a local command leaves of the lists
-record Leaves (v new : State) : Type 0 where
-  rising : AreRising 0 new.objects
-  numbered : IsNumbered new
-  own : new.own ≡ v.own
+pub record Leaves (v new : State) : Type 0 where
+  pub rising : AreRising 0 new.objects
+  pub numbered : IsNumbered new
+  pub own : new.own ≡ v.own
 
-pushed : (v : State) (n : Object) → IsVolume v → AreFree v → n.fid ≡ v.next_fid → AreRising 0 (v.objects ++ n ∷ [])
+pub pushed : (v : State) (n : Object) → IsVolume v → AreFree v → n.fid ≡ v.next_fid → AreRising 0 (v.objects ++ n ∷ [])
 pushed v n h free e =
     let most = objects_fid v in
     let top = free.fid in

@@ -29,8 +29,14 @@ fn tie(rt: HostRuntime) -> Result<(), Fail> {
         ("change b x 200", "update b:11"),
         ("pull a b", "pulled 1"),
         ("pull b a", "pulled 0"),
-        ("show a", "vector a:9..11 b:9..12\na:9 b:11 f live root x 3 200 100"),
-        ("show b", "vector a:9..11 b:9..12\na:9 b:11 f live root x 3 200 100"),
+        (
+            "show a",
+            "vector a:9..11 b:9..12\na:9 b:11 f live root x 3 200 100",
+        ),
+        (
+            "show b",
+            "vector a:9..11 b:9..12\na:9 b:11 f live root x 3 200 100",
+        ),
     ];
     expect_of_two(&rt, rt.alloc(), &rows)
 }
@@ -46,7 +52,10 @@ fn local_before_install(rt: HostRuntime) -> Result<(), Fail> {
         ("pull b a", "pulled 1"),
         ("install b", "refused 12 notyet 11"),
         ("consume b 50", "update b:11"),
-        ("show b", "vector a:9..11 b:9..12\na:9 b:11 f live root x 3 201 100"),
+        (
+            "show b",
+            "vector a:9..11 b:9..12\na:9 b:11 f live root x 3 201 100",
+        ),
         ("install b", "drained"),
         ("tree b", "f x 4"),
     ];
@@ -203,7 +212,13 @@ fn usual_answers(alloc: Global) -> Result<String, Fail> {
 fn the_usual_folder(rt: HostRuntime) -> Result<(), Fail> {
     let text = usual_folder(rt.alloc())?;
     let written = usual_answers(rt.alloc())?;
-    expect(&rt, rt.alloc(), text.as_str(), Status::Done, written.as_str())
+    expect(
+        &rt,
+        rt.alloc(),
+        text.as_str(),
+        Status::Done,
+        written.as_str(),
+    )
 }
 
 /// One of these words.

@@ -16,9 +16,11 @@ pub returns-clause-ok : goal.returns-clause-ok
 returns-clause-ok c = λ s given stands can form.
     let on = adopted_on c.args.at c.args.from c.args.entry c.args.form c.args.update c.in_ok-reply.reply c.args.self.now c.event.new.self s c.requires.room stands c.event.ensures.names c.in_ok-reply.ensures.ok c.requires.form can in
     let reads = on.reads in let said = c.taken_of.ensures in let some = c.in-Some.is in
-    let same : on.outcome ≡ c.in-Some.outcome = cc in
-    (on.after, subst (λ o. Took s.world (database_of (c.args.at + 1)) c.args.from c.args.update o on.after) same on.took,
-        subst (λ o. Stands c.event.new.self (after_taking s (database_of (c.args.at + 1)) c.args.update given o on.after)) same (on.stands given form))
+    let same : on.outcome ≡ c.in-Some.outcome = cc in (
+      on.after,
+      subst (λ o. Took s.world (database_of (c.args.at + 1)) c.args.from c.args.update o on.after) same on.took,
+      subst (λ o. Stands c.event.new.self (after_taking s (database_of (c.args.at + 1)) c.args.update given o on.after)) same (on.stands given form),
+    )
 
 pub returns-clause-made : goal.returns-clause-made
 returns-clause-made c =
