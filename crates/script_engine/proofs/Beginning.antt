@@ -20,7 +20,7 @@ use Rattle.script_engine.specs.Consuming.{ConsumesOne}
 use Rattle.script_engine.specs.Engines.{ConsumedNext, DrainedBy, Operated, Stands, machines_of}
 use Rattle.script_engine.specs.Named.{AreNamed}
 use Rattle.script_engine.specs.Installing.{Drains, Installs, InstallsSome}
-use Rattle.script_engine.specs.Pulling.{Ends, Pulls, Rest, TakesFiles, TakesPages, with_given}
+use Rattle.script_engine.specs.Pulling.{Pulls, Rest, TakesFiles, TakesPages, with_given}
 use Rattle.script_engine.specs.Pulls.{PullEnds}
 use Rattle.script_engine.specs.Scene.{IsNamed, Scene, in_world}
 use Rattle.script_engine.specs.Standing.{MachinesStand}

@@ -1,12 +1,12 @@
 -- A journal record consumed at a member's machine is consumed at the member.
-use Rattle.std.proofs.Common.{cond, ◌≡◌, ◌≢◌, ◌<◌, ◌≤◌, ◌+◌, ◌-◌, ◌^◌, ◌⊎◌, ◌&&◌, ℕ, zero, suc, Bool, true, false, leb, List, [], ◌∷◌, ◌++◌, length, refl, sym, ap, ◌∙◌, subst, arith, inl, inr, MatchBool, MatchOption, Option, Some, None}
+use Rattle.std.proofs.Common.{cond, ◌≡◌, ◌≢◌, ◌<◌, ◌≤◌, ◌+◌, ◌-◌, ◌^◌, ◌⊎◌, ℕ, zero, suc, Bool, true, false, leb, List, [], ◌∷◌, ◌++◌, length, refl, sym, ap, ◌∙◌, subst, arith, inl, inr, MatchBool, MatchOption, Option, Some, None}
 use Rattle.std.specs.Prelude.{option_to_list, slice_get}
 use Rattle.std.proofs.lemmas.Bool.Decides.{nat_tests}
 use Rattle.std.proofs.lemmas.List.{length-append}
 use Rattle.frs_base.specs.Identifiers.{content_set}
 use Rattle.frs_base.specs.declared.version.Uid.{Uid}
 use Rattle.frs_base.specs.Options.{In}
-use Rattle.frs_base.specs.Versions.{same_gvsn, same_uid}
+use Rattle.frs_base.specs.Versions.{same_uid}
 use Rattle.version_vector.specs.Versions.{covers}
 use Rattle.win_order.specs.declared.update.Update.{Update}
 use Rattle.vol_state.specs.declared.record.VolRecord.{VolRecord}
@@ -19,7 +19,6 @@ use Rattle.record_db.specs.Records.{Covered, IsHeld, plus}
 use Rattle.record_db.specs.Standing.{dropped_by, IsFit, IsUnused, StandsFor}
 use Rattle.record_db.specs.State.{BookState}
 use Rattle.record_db.specs.Steps.{Changes, own_version}
-use Rattle.record_db.proofs.Keys.{same_gvsn_refl}
 use Rattle.record_db.proofs.Lists.{found_held}
 use Rattle.record_db.proofs.Sets.{in_after, in_append}
 use Rattle.record_db.proofs.Standing.{records_on}

@@ -1,5 +1,5 @@
 -- The contents that a member gives with its record of a file.
-use Rattle.std.proofs.Common.{◌≡◌, ◌≢◌, ℕ, Bool, true, false, cond, List, refl, sym, ap, ◌∙◌, subst, inl, inr, MatchOption, Option, Some, None}
+use Rattle.std.proofs.Common.{◌≡◌, ℕ, Bool, true, false, cond, List, refl, sym, ap, ◌∙◌, subst, inl, inr, MatchOption, Option, Some, None}
 use Rattle.std.specs.Prelude.{MatchBool, option_map}
 use Rattle.frs_base.specs.Versions.{same_uid}
 use Rattle.frs_base.specs.declared.kind.Kind.TheVariants.{File}
@@ -7,19 +7,17 @@ use Rattle.frs_base.specs.declared.sum.Sum.{Sum}
 use Rattle.frs_base.specs.declared.version.Uid.{Uid}
 use Rattle.win_order.specs.declared.update.Update.{Update}
 use Rattle.vol_state.specs.declared.object.Object.{Object}
-use Rattle.vol_state.specs.Maps.{with_at}
 use Rattle.vol_state.specs.State.{uid_of}
 use Rattle.vol_state.specs.Sums.{content_sum}
 use Rattle.vol_state.specs.Tables.{IsAt}
 use Rattle.record_db.specs.Staged.{with_uid}
 use Rattle.record_db.proofs.Best.{best_one}
-use Rattle.record_db.proofs.Keys.{same_uid_is}
 use Rattle.name_rules.specs.Tree.{is_file}
-use Rattle.world_model.specs.World.{Member, World, IsRecordOf}
+use Rattle.world_model.specs.World.{Member, World}
 use Rattle.world_model.specs.Events.{IsOfFile, adopted_by}
 use Rattle.world_model.specs.Invariant.{HasSum, Invariant}
 use Rattle.world_model.proofs.Changing.{at_same}
-use Rattle.world_model.proofs.Facts.{none_some, some_is, true_false}
+use Rattle.world_model.proofs.Facts.{none_some, some_is}
 use Rattle.world_model.proofs.Installed.{file_kind}
 use Rattle.folder_core.specs.Notes.{form_sum}
 use Rattle.folder_core.proofs.Giving.{sum_is}

@@ -1,7 +1,6 @@
 -- What the events of lines leave of a sound scene.
-use Rattle.std.proofs.Common.{◌≡◌, ◌≢◌, ◌<◌, ◌+◌, ℕ, Bool, true, false, cond, List, length, refl, sym, ap, ◌∙◌, subst, inl, inr, Option, Some, None}
+use Rattle.std.proofs.Common.{◌≡◌, ◌≢◌, ◌<◌, ℕ, Bool, true, false, cond, length, refl, sym, ap, ◌∙◌, subst, inl, inr, Option, Some, None}
 use Rattle.std.proofs.lemmas.Bool.{cases_eq}
-use Rattle.frs_base.specs.Identifiers.{database_of}
 use Rattle.frs_base.specs.Versions.{same_uid}
 use Rattle.frs_base.specs.declared.sum.Sum.{Sum}
 use Rattle.frs_base.specs.declared.version.Uid.{Uid}
@@ -11,7 +10,7 @@ use Rattle.world_model.specs.World.{Member, World, with_member}
 use Rattle.world_model.specs.Events.{unstaged_by}
 use Rattle.world_model.proofs.Changing.{at_same}
 use Rattle.world_model.proofs.Facts.{none_some}
-use Rattle.script_engine.specs.Scene.{Contents, Scene, in_world}
+use Rattle.script_engine.specs.Scene.{Scene, in_world}
 use Rattle.script_engine.specs.Sound.{AreStaged, IsNobodys, IsSoundScene, IsSoundWorld}
 use Rattle.script_engine.proofs.Gives.{IsKept}
 use Rattle.script_engine.proofs.Passing.{Passes, passes_refl, passes_trans}

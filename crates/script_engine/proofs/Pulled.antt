@@ -1,11 +1,8 @@
 -- What a pull leaves of a sound scene.
-use Rattle.std.proofs.Common.{◌≡◌, ◌≢◌, ◌<◌, ◌^◌, ℕ, Bool, true, false, List, [], ◌∷◌, refl, sym, ap, ◌∙◌, subst, inl, inr, Option, Some, None}
+use Rattle.std.proofs.Common.{◌≡◌, ◌≢◌, ℕ, false, List, [], ◌∷◌, refl, sym, ap, ◌∙◌, subst, inl, inr, Option, Some, None}
 use Rattle.std.specs.Prelude.{if◌then◌else◌}
-use Rattle.frs_base.specs.declared.sum.Sum.{Sum}
-use Rattle.frs_base.specs.declared.version.Uid.{Uid}
 use Rattle.win_order.specs.declared.update.Update.{Update}
 use Rattle.vol_state.specs.declared.command.VolCmd.{VolCmd}
-use Rattle.vol_state.specs.Maps.{with_at}
 use Rattle.record_db.specs.Records.{Versions}
 use Rattle.record_db.specs.Staged.{with_uid}
 use Rattle.name_rules.specs.Tree.{is_file}
@@ -16,12 +13,12 @@ use Rattle.script_engine.specs.declared.consumed.Consumed.{Consumed}
 use Rattle.script_engine.specs.declared.consumed.Consumed.TheVariants.{Made, Skipped}
 use Rattle.script_engine.specs.declared.refusal.Refusal.{Refusal}
 use Rattle.script_engine.specs.Consuming.{ConsumesAll, ConsumesNext, ConsumesOne}
-use Rattle.script_engine.specs.Pulling.{Ends, Gives, GoesOn, Pulls, Rest, Takes, TakesFiles, TakesPages, with_given}
+use Rattle.script_engine.specs.Pulling.{Ends, GoesOn, Pulls, Rest, Takes, TakesFiles, TakesPages, with_given}
 use Rattle.script_engine.specs.Scene.{Scene, in_world, with_contents}
-use Rattle.script_engine.specs.Sound.{AreStaged, IsSoundScene, IsSoundWorld}
+use Rattle.script_engine.specs.Sound.{AreStaged, IsSoundWorld}
 use Rattle.script_engine.proofs.Gives.{GivenSum, IsKept, adopted_staged, gives_sum}
 use Rattle.script_engine.proofs.Leading.{Leads, Unstages, leads_by, leads_kept, leads_refl, leads_trans, member_unstages, without_made, without_one}
-use Rattle.script_engine.proofs.Passing.{Passes, consumes_one_passes, ends_pass, pages_pass, passes_refl, passes_trans, passes_vector, takes_passes}
+use Rattle.script_engine.proofs.Passing.{ends_pass, pages_pass, passes_trans, passes_vector, takes_passes}
 use Rattle.script_engine.proofs.Vectors.{HasVector}
 
 -- ---- what is staged

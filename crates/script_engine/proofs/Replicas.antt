@@ -1,38 +1,22 @@
 -- The lists of a volume after an operation of the installer, and what such an operation leaves of a sound world.
-use Rattle.std.proofs.Common.{◌≡◌, ◌<◌, ◌≤◌, ◌+◌, ℕ, zero, suc, Bool, true, false, eqb, List, [], ◌∷◌, ◌++◌, refl, sym, ap, ◌∙◌, subst, arith, inl, inr, Option, Some, None}
-use Rattle.std.specs.Prelude.{option_map}
-use Rattle.std.proofs.lemmas.Bool.Decides.{nat_tests, eqb_tells}
-use Rattle.std.proofs.lemmas.List.{length-append}
-use Rattle.frs_base.specs.Options.{In, none_or}
+use Rattle.std.proofs.Common.{◌≡◌, ℕ, false, refl, sym, ap, ◌∙◌, subst, inr, Some, None}
 use Rattle.frs_base.specs.declared.version.Uid.{Uid}
-use Rattle.vol_state.specs.declared.object.Object.{Object}
-use Rattle.vol_state.specs.declared.record.VolRecord.{VolRecord}
 use Rattle.vol_state.specs.declared.command.VolCmd.{VolCmd}
 use Rattle.vol_state.specs.declared.command.VolCmd.TheVariants.{PutNew, PutOver, Mkdir, Move, Remove, Park, Erase, Make, Rewrite, Place}
-use Rattle.vol_state.specs.Places.{above, above_it, ends_in}
-use Rattle.vol_state.specs.State.{State, uid_of}
-use Rattle.vol_state.specs.Journal.{IsNumbered, RunsFrom, record_at}
-use Rattle.vol_state.specs.Numbers.{greatest, greatest_fid, greatest_usn, own_version, usn_in}
-use Rattle.vol_state.specs.Tree.{AreRising, IsHome}
-use Rattle.vol_state.specs.Effects.{at_place, effect, logged, stamp, with_bytes}
+use Rattle.vol_state.specs.State.{State}
+use Rattle.vol_state.specs.Journal.{IsNumbered}
+use Rattle.vol_state.specs.Effects.{at_place, effect, stamp, with_bytes}
 use Rattle.vol_state.specs.Valid.{IsVolume}
 use Rattle.vol_state.specs.Laws.{AreFree}
 use Rattle.vol_state.specs.Maps.{Maps, Stands, write}
-use Rattle.vol_state.specs.Tables.{IsAt, IsReplica, LeadsBy}
-use Rattle.vol_state.proofs.Climbing.{by_cases, differ}
-use Rattle.vol_state.proofs.Finding.{in_at}
-use Rattle.vol_state.proofs.Runs.{run_push}
+use Rattle.vol_state.specs.Tables.{IsReplica}
 use Rattle.vol_state.proofs.Standing.{stands_on}
-use Rattle.vol_state.proofs.Tabling.{child_by, directory_at, tables_are_tests}
-use Rattle.vol_state.proofs.Tops.{greatest_in, objects_fid}
-use Rattle.vol_state.proofs.Trees.{rising_edit, rising_push, rising_without}
+use Rattle.vol_state.proofs.Tabling.{tables_are_tests}
+use Rattle.vol_state.proofs.Trees.{rising_edit, rising_without}
 use Rattle.world_model.specs.World.{Member, World, with_member}
 use Rattle.world_model.specs.Events.{Step, Install, Unstage, operated, unstaged_at}
-use Rattle.world_model.specs.Invariant.{Invariant, PlacesAreATree, NumbersAreFresh}
+use Rattle.world_model.specs.Invariant.{Invariant}
 use Rattle.world_model.proofs.Changing.{at_each, at_same}
-use Rattle.world_model.proofs.Facts.{some_is}
-use Rattle.world_model.proofs.Names.{matches_sym, matches_trans}
-use Rattle.world_model.proofs.Sums.{AreSummed}
 use Rattle.world_model.proofs.Growth.{step_grows}
 use Rattle.world_model.proofs.Lives.{step_beside}
 use Rattle.world_model.proofs.Steps.{step_keeps}

@@ -1,5 +1,5 @@
 -- A pull that isn't refused is a whole round.
-use Rattle.std.proofs.Common.{◌≡◌, ◌↔◌, ◌&&◌, not, ℕ, suc, Bool, true, false, List, [], ◌∷◌, ◌++◌, refl, sym, ap, ◌∙◌, subst, inl, inr, Option, Some, None}
+use Rattle.std.proofs.Common.{◌≡◌, ◌&&◌, not, ℕ, suc, Bool, true, false, List, [], ◌∷◌, ◌++◌, refl, sym, ap, ◌∙◌, subst, inl, inr, Option, Some, None}
 use Rattle.win_order.specs.declared.update.Update.{Update}
 use Rattle.record_db.specs.Records.{Versions}
 use Rattle.world_model.specs.World.{World}

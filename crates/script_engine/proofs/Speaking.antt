@@ -10,7 +10,7 @@ use Rattle.frs_base.specs.Identifiers.{content_set, database_of}
 use Rattle.frs_base.specs.declared.kind.MemberKind.{MemberKind}
 use Rattle.record_db.proofs.Standing.{begins_standing}
 use Rattle.win_order.specs.declared.update.Update.{Update}
-use Rattle.world_model.specs.World.{Member, World, fresh_member}
+use Rattle.world_model.specs.World.{Member, fresh_member}
 use Rattle.world_model.proofs.Changing.{at_other, at_same}
 use Rattle.folder_core.specs.Machine.{Machine, fresh_machine}
 use Rattle.folder_core.specs.Replay.{Seen}
@@ -26,7 +26,7 @@ use Rattle.script_engine.specs.Named.{AreNamed, is_name_or_empty}
 use Rattle.script_engine.specs.Printed.{printed}
 use Rattle.script_engine.specs.Pulls.{PullEnds}
 use Rattle.script_engine.specs.Refusals.{first_refusal, refused_text, unless_named}
-use Rattle.script_engine.specs.Scene.{IsNamed, Scene, in_world, numbered, place_of, with_name}
+use Rattle.script_engine.specs.Scene.{IsNamed, Scene, numbered, place_of, with_name}
 use Rattle.script_engine.specs.Sound.{IsNobodys}
 use Rattle.script_engine.specs.Standing.{HoldsContents, MachineStands, MachinesStand, recorded_in}
 use Rattle.script_engine.specs.Text.{Acts, Does, IsRefused, left_by}

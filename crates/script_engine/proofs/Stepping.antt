@@ -1,5 +1,5 @@
 -- A step of the installer at a member's machine is one at the member.
-use Rattle.std.proofs.Common.{◌≡◌, ◌≢◌, ◌+◌, ◌⊎◌, ◌∷◌, ◌++◌, ℕ, Bool, true, false, cond, List, [], refl, sym, ap, ◌∙◌, subst, arith, inl, inr, Option, Some, None, Result, Ok, Err}
+use Rattle.std.proofs.Common.{◌≡◌, ℕ, Bool, true, false, cond, List, refl, sym, ap, ◌∙◌, subst, arith, inl, inr, Option, Some, None, Result, Ok, Err}
 use Rattle.std.specs.Prelude.{drop, option_map}
 use Rattle.frs_base.specs.Options.{In}
 use Rattle.frs_base.specs.Versions.{same_uid}
@@ -9,7 +9,6 @@ use Rattle.marshal_form.specs.Local.{local}
 use Rattle.marshal_form.specs.Spelling.{spelling}
 use Rattle.win_order.specs.declared.update.Update.{Update}
 use Rattle.vol_state.specs.declared.command.VolCmd.{VolCmd}
-use Rattle.vol_state.specs.declared.command.VolCmd.TheVariants as vol
 use Rattle.vol_state.specs.declared.object.Object.{Object}
 use Rattle.vol_state.specs.Effects.{effect, uid_at, uid_found}
 use Rattle.vol_state.specs.Maps.{Maps, Stands, maps_of, write}
@@ -22,8 +21,7 @@ use Rattle.record_db.specs.Staged.{with_uid}
 use Rattle.record_db.specs.Standing.{StandsFor}
 use Rattle.record_db.specs.State.{form_of}
 use Rattle.record_db.proofs.Standing.{unstages_on}
-use Rattle.name_rules.specs.Next.{IsAnswer, IsCandidate, IsDrained, IsInPlace, IsNext, IsStepOf}
-use Rattle.name_rules.specs.Tree.{IsShown}
+use Rattle.name_rules.specs.Next.{IsAnswer, IsCandidate, IsDrained, IsInPlace, IsStepOf}
 use Rattle.name_rules.specs.declared.step.Next.{Next}
 use Rattle.name_rules.specs.declared.step.Next.TheVariants as next
 use Rattle.name_rules.specs.declared.step.Step.{Step as InstallStep}

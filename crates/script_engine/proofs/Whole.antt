@@ -1,7 +1,6 @@
 -- A whole pull of its parts.
 use Rattle.std.proofs.Common.{◌≡◌, ◌+◌, ℕ, Bool, true, false, List, [], ◌∷◌, refl, sym, subst, inl, inr, Option, Some, None, Ok, Err}
 use Rattle.std.specs.Prelude.{slice_get}
-use Rattle.std.specs.List.Sorted.{IsPermutation, IsSortedBy}
 use Rattle.frs_base.specs.Identifiers.{database_of}
 use Rattle.frs_base.specs.Options.{In}
 use Rattle.version_vector.specs.declared.interval.Interval.{Interval}

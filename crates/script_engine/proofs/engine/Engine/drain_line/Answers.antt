@@ -1,4 +1,4 @@
-use Rattle.std.proofs.Common.{◌≡◌, ◌+◌, ◌∙◌, sym, subst, inl, inr, refl, Ok, Err}
+use Rattle.std.proofs.Common.{◌+◌, ◌∙◌, sym, subst, inl, inr, refl}
 use Rattle.frs_base.specs.Identifiers.{database_of}
 use Rattle.script_engine.specs.Engines.{DrainedBy}
 use Rattle.script_engine.specs.Scene.{in_world}

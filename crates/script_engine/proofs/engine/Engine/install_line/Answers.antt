@@ -1,10 +1,9 @@
-use Rattle.std.proofs.Common.{◌≡◌, ◌+◌, ◌∙◌, sym, subst, inl, refl, Ok, Err}
+use Rattle.std.proofs.Common.{◌+◌, ◌∙◌, sym, subst, inl, refl, Ok, Err}
 use Rattle.frs_base.specs.Identifiers.{database_of}
 use Rattle.script_engine.specs.Named.{AreNamed}
 use Rattle.script_engine.specs.Installing.{Installs}
-use Rattle.script_engine.specs.Printed.{step_words}
-use Rattle.script_engine.specs.Scene.{in_world, members_of}
-use Rattle.script_engine.specs.Text.{InstallsNext, installed_text}
+use Rattle.script_engine.specs.Scene.{in_world}
+use Rattle.script_engine.specs.Text.{InstallsNext}
 use Rattle.script_engine.proofs.Beginning.{named_held, on_err, step_begun}
 use Rattle.script_engine.proofs.Spoken.{installed_named, installed_said, known_said, unknown_said, within_held}
 use Rattle.script_engine.proofs.engine.Engine.install_line.Goals as goal
