@@ -1,4 +1,5 @@
 // Laws of the definitions.
+ghost use Rattle.script_engine.specs.Equal.{DrainsCoverTheirOwn, DrainsLeaveDrained, EqualTrees, FreshVolumesAreAlike};
 ghost use Rattle.script_engine.specs.Laws.{PagesAreAsked, PullsAreRounds, TreesAreOne, VolumesHaveTrees};
 ghost use Rattle.script_engine.specs.Scripts.{BeginningsGoOn, BeginningsKeepScenesSound, EqualRecords, EveryLinePrints, EveryScriptPrints, FreshScenesAreSound, LinesKeepScenesSound, LinesPrintOneText, OneText, RecordedIsCovered, RunsKeepScenesSound, RunsPrintOneText, StaysCovered};
 
@@ -87,4 +88,19 @@ pub fn stays_covered()
 /// Members that cover the same versions have the same records, at one moment of a run or at two.
 pub fn equal_vectors_have_equal_records()
     ensures { EqualRecords }
+{}
+
+/// Drained members that cover the same versions print the same sums, at one moment of a run or at
+/// two; and the same tree, where files of one sum have one length. Contents are compared by their
+/// sums alone, so nothing more can be said of lengths; a volume with nothing in it is alike to each.
+pub fn equal_vectors_print_equal_trees()
+    ensures trees { EqualTrees }
+    ensures fresh { FreshVolumesAreAlike }
+{}
+
+/// A member whose drain isn't refused is drained, and covers no more than it covered and the
+/// journal records that it has consumed since.
+pub fn drains_leave_drained()
+    ensures drained { DrainsLeaveDrained }
+    ensures covered { DrainsCoverTheirOwn }
 {}
