@@ -1,5 +1,5 @@
 -- Members that cover the same versions print the same trees, once they are drained.
-use Rattle.std.proofs.Common.{◌≡◌, ◌&&◌, ◌⊎◌, ◌++◌, ℕ, Bool, true, false, cond, not, List, [], ◌∷◌, length, map, refl, sym, ap, ◌∙◌, subst, inl, inr, Option, Some, None}
+use Rattle.std.proofs.Common.{◌≡◌, ◌&&◌, ◌⊎◌, ◌↔◌, ◌++◌, ℕ, Bool, true, false, cond, not, List, [], ◌∷◌, length, map, refl, sym, ap, ◌∙◌, subst, inl, inr, Option, Some, None}
 use Rattle.std.specs.Prelude.{codes, decimal, filter, flat_map}
 use Rattle.std.specs.List.{AllByRecursion}
 use Rattle.frs_base.specs.Options.{In}
@@ -23,7 +23,8 @@ use Rattle.world_model.proofs.Trees.{equal_trees}
 use Rattle.script_engine.specs.Printed.{printed}
 use Rattle.script_engine.specs.Scene.{Scene, in_world}
 use Rattle.script_engine.specs.Trees.{IsByPath, IsTreeOf, Row, files_of, path_lt, path_word, row_text, row_words, sum_text, sums_text, tree_text}
-use Rattle.script_engine.specs.Equal.{AreAlike, DrainsLeaveDrained, EqualTrees, FreshVolumesAreAlike}
+use Rattle.script_engine.specs.Sound.{IsSoundScene}
+use Rattle.script_engine.specs.Equal.{AreAlike, DrainsCoverTheirOwn, DrainsLeaveDrained, EqualTrees, FreshVolumesAreAlike}
 use Rattle.script_engine.proofs.Lasting.{run_grows}
 use Rattle.script_engine.proofs.Ordered.{path_apart, path_trans}
 use Rattle.script_engine.proofs.Orders.{Sorted, sorted_one}
@@ -73,7 +74,7 @@ seen_in f a b h v i =
 -- rows in order of which each is seen among the others look the same
 seen_one : {X : Type 0} (f : Object → X) (a b : List Row) → IsByPath a → IsByPath b → AreSeen f a b → AreSeen f b a → map (seen f) a ≡ map (seen f) b
 seen_one f a b up up' to back = sorted_one Above (λ x y z p q. path_trans x.0 y.0 z.0 p q) (λ x p. path_apart x.0 x.0 p refl) (map (seen f) a) (map (seen f) b) (seen_sorted f a up) (seen_sorted f b up')
-(seen_in f a b to) (seen_in f b a back)
+    (seen_in f a b to) (seen_in f b a back)
 
 -- ---- what is printed of it
 
@@ -128,12 +129,13 @@ sums_of (line ∷ lines) = flat_map (λ text. text) (line ∷ lines)
 
 files_seen : (rows : List Row) → map sum_text (files_of rows) ≡ sum_lines (map (seen sum_seen) rows)
 files_seen [] = refl
-files_seen (record { path = path; object = o } ∷ rows) = by o.kind o.sum (files_seen rows)
+files_seen (row ∷ rows) = by row.object.kind (files_seen rows)
   where
-    by : (kind : Kind) (sum : Sum) → map sum_text (files_of rows) ≡ sum_lines (map (seen sum_seen) rows)
-        → map sum_text (cond (not (is_directory kind)) (record { path = path; object = o } ∷ files_of rows) (files_of rows)) ≡ before kind path (cond (is_directory kind) no_sum sum) (sum_lines (map (seen sum_seen) rows))
-    by Directory sum more = more
-    by File sum more = ?
+    by : (kind : Kind) → map sum_text (files_of rows) ≡ sum_lines (map (seen sum_seen) rows)
+        → map sum_text (cond (not (is_directory kind)) (row ∷ files_of rows) (files_of rows))
+        ≡ before kind row.path (cond (is_directory kind) no_sum row.object.sum) (sum_lines (map (seen sum_seen) rows))
+    by Directory more = more
+    by File more = λ i. sum_text row ∷ more i
 
 sums_seen : (rows : List Row) → sums_text rows ≡ sums_of (map sum_text rows)
 sums_seen [] = refl
@@ -164,8 +166,78 @@ twin m n a b reached t u r h =
     let (q, stands, kind, sum) = reached r.path r.object.kind (hash_of r.object) (r.object, t.each r h, refl, refl) in
     (record { path = r.path; object = q }, u.whole r.path q stands, refl, kind, sum)
 
+-- ---- the law
+
+sums_seen_one : (m n : Maps) (a b : List Row) → AreReached m n → AreReached n m → IsTreeOf m a → IsTreeOf n b → map (seen sum_seen) a ≡ map (seen sum_seen) b
+sums_seen_one m n a b to back t u = seen_one sum_seen a b t.ordered u.ordered (among m n a b to t u) (among n m b a back u t)
+  where
+    among : (m n : Maps) (a b : List Row) → AreReached m n → IsTreeOf m a → IsTreeOf n b → AreSeen sum_seen a b
+    among m n a b reached t u r h = let (q, k, path, kind, sum) = twin m n a b reached t u r h in (q, k, path, λ i. (kind i, sum i))
+
+pub sums_one : (m n : Maps) (a b : List Row) → AreReached m n → AreReached n m → IsTreeOf m a → IsTreeOf n b → sums_text (files_of a) ≡ sums_text (files_of b)
+sums_one m n a b to back t u =
+    sums_seen (files_of a) ∙ ap sums_of (files_seen a ∙ ap sum_lines (sums_seen_one m n a b to back t u) ∙ sym (files_seen b)) ∙ sym (sums_seen (files_of b))
+
+-- each object has the sum of its contents
+abbrev AreSummed : Maps → Type 0
+AreSummed m = (fid : ℕ) (o : Object) → IsAt m fid o → IsSummed o
+
+-- objects of one kind and sum, where files of one sum have one length, have one length
+lengths_one : (m n : Maps) (o q : Object) (f g : ℕ) → AreAlike m n → AreSummed m → AreSummed n → IsAt m f o → IsAt n g q → o.kind ≡ q.kind → hash_of o ≡ hash_of q → length o.bytes ≡ length q.bytes
+lengths_one m n o q f g alike h h' at at' same sums = by o.kind refl
+  where
+    by : (kind : Kind) → o.kind ≡ kind → length o.bytes ≡ length q.bytes
+    by Directory e =
+        let here : is_directory o.kind ≡ true = ap is_directory e in
+        let there : is_directory q.kind ≡ true = ap is_directory (sym same ∙ e) in
+        ap length ((h f o at).bare here ∙ sym ((h' g q at').bare there))
+    by File e =
+        let here : hash_of o ≡ o.sum = ap (λ kind. cond (is_directory kind) no_sum o.sum) e in
+        let there : hash_of q ≡ q.sum = ap (λ kind. cond (is_directory kind) no_sum q.sum) (sym same ∙ e) in
+        alike f g o q at at' e (sym same ∙ e) (sym here ∙ sums ∙ there)
+
+alike_back : (m n : Maps) → AreAlike m n → AreAlike n m
+alike_back m n alike f g o q at at' kind kind' same = sym (alike g f q o at' at kind' kind (sym same))
+
+tree_seen_one : (m n : Maps) (a b : List Row) → AreAlike m n → AreSummed m → AreSummed n → AreReached m n → AreReached n m → IsTreeOf m a → IsTreeOf n b → map (seen length_seen) a ≡ map (seen length_seen) b
+tree_seen_one m n a b alike h h' to back t u =
+    seen_one length_seen a b t.ordered u.ordered (among m n a b alike h h' to t u) (among n m b a (alike_back m n alike) h' h back u t)
+  where
+    among : (m n : Maps) (a b : List Row) → AreAlike m n → AreSummed m → AreSummed n → AreReached m n → IsTreeOf m a → IsTreeOf n b → AreSeen length_seen a b
+    among m n a b alike h h' reached t u r k =
+        let (q, l, path, kind, sum) = twin m n a b reached t u r k in
+        let (f, at) = stands_there m 0 r.path r.object (t.each r k) in
+        let (g, at') = stands_there n 0 q.path q.object (u.each q l) in
+        let long = lengths_one m n r.object q.object f g alike h h' at at' kind sum in
+        (q, l, path, λ i. (kind i, long i))
+
+pub equal_text : EqualTrees
+equal_text s more said new h all run i j same drained drained' = (
+  λ a b (rows, is, text) (rows', is', text'). text ∙ sums_one (s.world.at i).volume (new.world.at j).volume rows rows' to back is is' ∙ sym text',
+  λ alike a b (rows, is, text) (rows', is', text').
+      text ∙ (tree_seen rows ∙ ap tree_of (tree_seen_one (s.world.at i).volume (new.world.at j).volume rows rows' alike (h.world.invariant.sums.objects i) (later.world.invariant.sums.objects j) to back is is') ∙ sym (tree_seen rows')) ∙ sym text',
+)
+  where
+    later : IsSoundScene new
+    later = run_keeps s more said new h all run
+
+    reached : (path : List (List ℕ)) (kind : Kind) (sum : Sum) → IsVolumeRow (s.world.at i).volume path kind sum ↔ IsVolumeRow (new.world.at j).volume path kind sum
+    reached = equal_trees s.world new.world h.world.invariant later.world.invariant (run_grows s more said new h all run) i j same drained drained'
+
+    to : AreReached (s.world.at i).volume (new.world.at j).volume
+    to path kind sum = (reached path kind sum).0
+
+    back : AreReached (new.world.at j).volume (s.world.at i).volume
+    back path kind sum = (reached path kind sum).1
+
+pub fresh_alike : FreshVolumesAreAlike
+fresh_alike m f g o q at at' kind kind' same = absurd (none_some o at)
+
 -- ---- drains
 
 pub drain_drains : DrainsLeaveDrained
 drain_drains s d [] new (drained, is) = subst (λ w. IsDrainedAt w d) (sym is) drained
 drain_drains s d (step ∷ steps) new (mid, first, rest) = drain_drains (in_world s mid) d steps new rest
+
+pub drain_covers : DrainsCoverTheirOwn
+drain_covers s d steps new drains g known = ?
