@@ -1,30 +1,49 @@
 -- Members that cover the same versions print the same trees, once they are drained.
-use Rattle.std.proofs.Common.{◌≡◌, ◌&&◌, ◌⊎◌, ◌↔◌, ◌++◌, ℕ, Bool, true, false, cond, not, List, [], ◌∷◌, length, map, refl, sym, ap, ◌∙◌, subst, inl, inr, Option, Some, None}
+use Rattle.std.proofs.Common.{◌≡◌, ◌≢◌, ◌<◌, ◌≤◌, ◌⊎◌, ◌++◌, ℕ, true, cond, not, List, [], ◌∷◌, length, map, refl, sym, ap, ◌∙◌, subst, arith, inl, inr, Option, Some, None, Result, Ok, Err}
 use Rattle.std.specs.Prelude.{codes, decimal, filter, flat_map}
 use Rattle.std.specs.List.{AllByRecursion}
+use Rattle.std.proofs.lemmas.Bool.{cases_eq, cases_lt}
 use Rattle.frs_base.specs.Options.{In}
 use Rattle.frs_base.specs.declared.kind.Kind.{Kind}
 use Rattle.frs_base.specs.declared.kind.Kind.TheVariants.{File, Directory}
 use Rattle.frs_base.specs.declared.sum.Sum.{Sum}
+use Rattle.frs_base.specs.declared.version.Gvsn.{Gvsn}
+use Rattle.frs_base.specs.declared.version.Uid.{Uid}
 use Rattle.hex.specs.Hex.{encode_lower}
+use Rattle.win_order.specs.declared.update.Update.{Update}
 use Rattle.vol_state.specs.declared.object.Object.{Object}
 use Rattle.vol_state.specs.Maps.{Maps}
 use Rattle.vol_state.specs.Places.{is_directory}
 use Rattle.vol_state.specs.Sums.{no_sum}
 use Rattle.vol_state.specs.Tables.{IsAt}
 use Rattle.vol_state.specs.Valid.{IsSummed}
+use Rattle.record_db.specs.Records.{IsRecord, plus}
+use Rattle.record_db.proofs.Sets.{plus_cases, plus_new, plus_old}
+use Rattle.name_rules.specs.Next.{IsDrained}
 use Rattle.name_rules.specs.Recorded.{hash_of}
 use Rattle.name_rules.specs.Tree.{IsVolumeRow, StandsAt}
 use Rattle.name_rules.specs.declared.step.Step.{Step as InstallStep}
-use Rattle.world_model.specs.World.{World}
+use Rattle.name_rules.specs.declared.step.Step.TheVariants.{Skip, Unstage}
+use Rattle.name_rules.proofs.Showing.{AreSame, row_same, same_back, shown_same}
+use Rattle.world_model.specs.World.{Member, World, IsRecordOf, with_member}
+use Rattle.world_model.specs.Events.{consumed_by, consumes, operated, unstaged_at}
+use Rattle.world_model.specs.Invariant.{Invariant}
 use Rattle.world_model.specs.Laws.{IsDrainedAt}
+use Rattle.world_model.proofs.Changing.{at_same}
+use Rattle.world_model.proofs.Due.{records_stay}
 use Rattle.world_model.proofs.Facts.{none_some}
-use Rattle.world_model.proofs.Trees.{equal_trees}
+use Rattle.world_model.proofs.Growth.{grows_refl}
+use Rattle.world_model.proofs.Headline.{equal_records}
+use Rattle.world_model.proofs.Trees.{drained_trees}
+use Rattle.script_engine.specs.declared.refusal.Refusal.{Refusal}
 use Rattle.script_engine.specs.Printed.{printed}
 use Rattle.script_engine.specs.Scene.{Scene, in_world}
+use Rattle.script_engine.specs.Sound.{IsSoundScene, IsSoundWorld}
 use Rattle.script_engine.specs.Trees.{IsByPath, IsTreeOf, Row, files_of, path_lt, path_word, row_text, row_words, sum_text, sums_text, tree_text}
-use Rattle.script_engine.specs.Sound.{IsSoundScene}
-use Rattle.script_engine.specs.Equal.{AreAlike, DrainsCoverTheirOwn, DrainsLeaveDrained, EqualTrees, FreshVolumesAreAlike}
+use Rattle.script_engine.specs.Installing.{DoesStep, Drains, Installs, OperatesStep, end_of}
+use Rattle.script_engine.specs.Equal.{AreAlike, DrainedPairsPrintAlike, DrainsCoverTheirOwn, DrainsKeepRecords, DrainsLeaveDrained, EqualRecordsPrintAlike, EqualTrees, FreshVolumesAreAlike, PrintAlike}
+use Rattle.script_engine.proofs.Drained.{drains_pass}
+use Rattle.script_engine.proofs.Installed.{installs_pass}
 use Rattle.script_engine.proofs.Lasting.{run_grows}
 use Rattle.script_engine.proofs.Ordered.{path_apart, path_trans}
 use Rattle.script_engine.proofs.Orders.{Sorted, sorted_one}
@@ -211,24 +230,30 @@ tree_seen_one m n a b alike h h' to back t u =
         let long = lengths_one m n r.object q.object f g alike h h' at at' kind sum in
         (q, l, path, λ i. (kind i, long i))
 
-pub equal_text : EqualTrees
-equal_text s more said new h all run i j same drained drained' = (
+-- of worlds that keep the invariant
+records_alike : (s new : Scene) → Invariant s.world → Invariant new.world → (i j : ℕ) → AreSame (IsRecordOf s.world i) (IsRecordOf new.world j) → IsDrainedAt s.world i → IsDrainedAt new.world j
+    → PrintAlike s i new j
+records_alike s new h later i j same drained drained' = (
   λ a b (rows, is, text) (rows', is', text'). text ∙ sums_one (s.world.at i).volume (new.world.at j).volume rows rows' to back is is' ∙ sym text',
   λ alike a b (rows, is, text) (rows', is', text').
-      text ∙ (tree_seen rows ∙ ap tree_of (tree_seen_one (s.world.at i).volume (new.world.at j).volume rows rows' alike (h.world.invariant.sums.objects i) (later.world.invariant.sums.objects j) to back is is') ∙ sym (tree_seen rows')) ∙ sym text',
+      let one = tree_seen_one (s.world.at i).volume (new.world.at j).volume rows rows' alike (h.sums.objects i) (later.sums.objects j) to back is is' in
+      text ∙ (tree_seen rows ∙ ap tree_of one ∙ sym (tree_seen rows')) ∙ sym text',
 )
   where
-    later : IsSoundScene new
-    later = run_keeps s more said new h all run
-
-    reached : (path : List (List ℕ)) (kind : Kind) (sum : Sum) → IsVolumeRow (s.world.at i).volume path kind sum ↔ IsVolumeRow (new.world.at j).volume path kind sum
-    reached = equal_trees s.world new.world h.world.invariant later.world.invariant (run_grows s more said new h all run) i j same drained drained'
-
     to : AreReached (s.world.at i).volume (new.world.at j).volume
-    to path kind sum = (reached path kind sum).0
+    to path kind sum row = (drained_trees new.world later j drained' path kind sum).1 (row_same same path kind sum ((drained_trees s.world h i drained path kind sum).0 row))
 
     back : AreReached (new.world.at j).volume (s.world.at i).volume
-    back path kind sum = (reached path kind sum).1
+    back path kind sum row = (drained_trees s.world h i drained path kind sum).1 (row_same (same_back same) path kind sum ((drained_trees new.world later j drained' path kind sum).0 row))
+
+pub records_print_alike : EqualRecordsPrintAlike
+records_print_alike s new h later i j same drained drained' =
+    records_alike s new h.world.invariant later.world.invariant i j (record { to = λ u. (same u).0; back = λ u. (same u).1 }) drained drained'
+
+pub vectors_print_alike : EqualTrees
+vectors_print_alike s more said new h all run i j same drained drained' =
+    let later = run_keeps s more said new h all run in
+    records_print_alike s new h later i j (equal_records s.world new.world h.world.invariant.versions (run_grows s more said new h all run) i j same) drained drained'
 
 pub fresh_alike : FreshVolumesAreAlike
 fresh_alike m f g o q at at' kind kind' same = absurd (none_some o at)
@@ -239,5 +264,141 @@ pub drain_drains : DrainsLeaveDrained
 drain_drains s d [] new (drained, is) = subst (λ w. IsDrainedAt w d) (sym is) drained
 drain_drains s d (step ∷ steps) new (mid, first, rest) = drain_drains (in_world s mid) d steps new rest
 
-pub drain_covers : DrainsCoverTheirOwn
-drain_covers s d steps new drains g known = ?
+-- what becomes of a member, where all updates are these then
+record Keeps (w : World) (d : ℕ) (all : List Update) (x : Member) : Type 0 where
+  records : AreSame (IsRecordOf w d) (IsRecord all x.known)
+  more : (w.at d).consumed ≤ x.consumed
+  only : (g : Gvsn) → x.known g ≡ true → ((w.at d).known g ≡ true) ⊎ ((g.db ≡ d) × ((w.at d).consumed ≤ g.version) × (g.version < x.consumed))
+  old : (g : Gvsn) → (w.at d).known g ≡ true → x.known g ≡ true
+  passed : (g : Gvsn) → g.db ≡ d → (w.at d).consumed ≤ g.version → g.version < x.consumed → x.known g ≡ true
+
+-- in the world that comes of it
+abbrev KeepsIn : World → ℕ → World → Type 0
+KeepsIn w d new = Keeps w d new.all (new.at d)
+
+keeps_by : (w : World) (d : ℕ) (x : Member) (new : World) → new.at d ≡ x → Keeps w d new.all x → KeepsIn w d new
+keeps_by w d x new is k = subst (Keeps w d new.all) (sym is) k
+
+-- a member that covers as much, and has consumed as much
+keeps_as : (w : World) (d : ℕ) (x : Member) → (w.at d).known ≡ x.known → (w.at d).consumed ≡ x.consumed → Keeps w d w.all x
+keeps_as w d x known consumed = record {
+  records = record { to = λ u r. subst (λ k. IsRecord w.all k u) known r; back = λ u r. subst (λ k. IsRecord w.all k u) (sym known) r };
+  more = omega (arith, consumed);
+  only = λ g t. inl (ap (λ k. k g) known ∙ t);
+  old = λ g t. ap (λ k. k g) (sym known) ∙ t;
+  passed = λ g own low high. absurd (omega (arith, low, high, consumed));
+}
+
+keeps_itself : (w : World) (d : ℕ) → KeepsIn w d w
+keeps_itself w d = keeps_as w d (w.at d) refl refl
+
+keeps_trans : (w : World) (d : ℕ) (mid new : World) → KeepsIn w d mid → KeepsIn mid d new → KeepsIn w d new
+keeps_trans w d mid new p q = record {
+  records = record { to = λ u r. q.records.to u (p.records.to u r); back = λ u r. p.records.back u (q.records.back u r) };
+  more = let a = p.more in let b = q.more in omega (arith, a, b);
+  only = λ g t. elim (q.only g t) [
+    | inl k ↦ elim (p.only g k) [ inl old ↦ inl old | inr (own, low, high) ↦ inr (own, low, (let b = q.more in omega (arith, high, b))) ]
+    | inr (own, low, high) ↦ inr (own, (let a = p.more in omega (arith, low, a)), high)
+  ];
+  old = λ g t. q.old g (p.old g t);
+  passed = λ g own low high. elim (cases_lt g.version (mid.at d).consumed) [
+    | inl below ↦ q.old g (p.passed g own low below)
+    | inr past ↦ q.passed g own past high
+  ];
+}
+
+-- an event that leaves what the member covers and has consumed
+keeps_member : (w : World) (d : ℕ) (x : Member) (new : World) → new ≡ with_member w d x → Keeps w d w.all x → KeepsIn w d new
+keeps_member w d x new is k = subst (KeepsIn w d) (sym is) (keeps_by w d x (with_member w d x) (at_same w.at d x) k)
+
+keeps_skip : (w : World) (d : ℕ) → Invariant w → Keeps w d (w.all ++ []) (consumed_by d None (w.at d))
+keeps_skip w d h = record {
+  records = records_stay w d h;
+  more = omega arith;
+  only = λ g t. elim (plus_cases (w.at d).known (record { db = d; version = (w.at d).consumed }) g t) [
+    | inl e ↦ inr (ap (λ (z : Gvsn). z.db) e, (let at = ap (λ (z : Gvsn). z.version) e in omega (arith, at)), (let at = ap (λ (z : Gvsn). z.version) e in omega (arith, at)))
+    | inr old ↦ inl old
+  ];
+  old = λ g t. plus_old (w.at d).known (record { db = d; version = (w.at d).consumed }) g t;
+  passed = λ g own low high. let at : g.version ≡ (w.at d).consumed = omega (arith, low, high) in
+      let is : g ≡ record { db = d; version = (w.at d).consumed } = λ i. record { db = own i; version = at i } in
+      subst (λ z. plus (w.at d).known (record { db = d; version = (w.at d).consumed }) z ≡ true) (sym is) (plus_new (w.at d).known (record { db = d; version = (w.at d).consumed }));
+}
+
+does_keep : (s : Scene) (d : ℕ) (step : InstallStep) (new : World) → Invariant s.world → DoesStep s d step new → KeepsIn s.world d new
+does_keep s d (Unstage uid) new h (fid, o, at, id, staged, is) = keeps_member s.world d (unstaged_at uid (s.world.at d)) new is (keeps_as s.world d (unstaged_at uid (s.world.at d)) refl refl)
+does_keep s d (Skip usn) new h (same, fits, records, is) =
+    subst (KeepsIn s.world d) (sym is) (keeps_by s.world d (consumed_by d None (s.world.at d)) (consumes s.world d None) (at_same s.world.at d (consumed_by d None (s.world.at d))) (keeps_skip s.world d h))
+does_keep s d step new h (op, of_step, gives, (quiet, due, ok, is)) = keeps_member s.world d (operated d op (s.world.at d)) new is (keeps_as s.world d (operated d op (s.world.at d)) refl refl)
+
+installs_keep : (s : Scene) (d : ℕ) (outcome : Result (Option InstallStep) Refusal) (new : World) → Invariant s.world → Installs s d outcome new → KeepsIn s.world d new
+installs_keep s d (Ok None) new h (drained, is) = subst (KeepsIn s.world d) (sym is) (keeps_itself s.world d)
+installs_keep s d (Ok (Some step)) new h (answer, does) = does_keep s d step new h does
+installs_keep s d (Err why) new h (stopped, is) = subst (KeepsIn s.world d) (sym is) (keeps_itself s.world d)
+
+drains_keep : (s : Scene) (d : ℕ) (steps : List InstallStep) (why : Option Refusal) (new : World) → IsSoundWorld s.world → Drains s d steps why new → KeepsIn s.world d new
+drains_keep s d [] why new h end = installs_keep s d (end_of why) new h.invariant end
+drains_keep s d (step ∷ steps) why new h (mid, first, rest) =
+    let p = installs_pass s d (Ok (Some step)) mid h first in
+    keeps_trans s.world d mid new (installs_keep s d (Ok (Some step)) mid h.invariant first) (drains_keep (in_world s mid) d steps why new p.sound rest)
+
+pub drains_cover : DrainsCoverTheirOwn
+drains_cover s d steps why new h drains g =
+    let k = drains_keep s d steps why new h.world drains in
+    (k.only g, λ is. elim is [ inl old ↦ k.old g old | inr (own, low, high) ↦ k.passed g own low high ])
+
+-- every member has the records that it had
+drains_same : (s : Scene) (d : ℕ) (steps : List InstallStep) (why : Option Refusal) (new : World) → IsSoundWorld s.world → Drains s d steps why new
+    → (j : ℕ) → AreSame (IsRecordOf s.world j) (IsRecordOf new j)
+drains_same s d steps why new h drains j = by (cases_eq j d)
+  where
+    by : (j ≡ d) ⊎ (j ≢ d) → AreSame (IsRecordOf s.world j) (IsRecordOf new j)
+    by (inl e) = subst (λ k. AreSame (IsRecordOf s.world k) (IsRecordOf new k)) (sym e) (drains_keep s d steps why new h drains).records
+    by (inr n) =
+        let p = drains_pass s d steps why new h drains in
+        let alike = equal_records s.world new h.invariant.versions p.grows j j (λ g. ap (λ (x : Member). x.known g) (p.others j n)) in
+        record { to = λ u. (alike u).0; back = λ u. (alike u).1 }
+
+pub drains_keep_records : DrainsKeepRecords
+drains_keep_records s d steps why new h drains j u = let same = drains_same s d steps why new h.world drains j in (same.to u, same.back u)
+
+-- ---- two drains
+
+-- a drained member stays drained where it and its records are the same
+drained_same : (own : ℕ) (R S : Update → Type 0) (m : Maps) (staged : Uid → Option Sum) (consumed : ℕ) → AreSame R S → IsDrained R own m staged consumed → IsDrained S own m staged consumed
+drained_same own R S m staged consumed same h = record {
+  quiet = h.quiet;
+  park = λ fid o p at place. let (u, shown, id, up, name) = h.park fid o p at place in (u, shown_same same u shown, id, up, name);
+  erase = λ fid o u at r id. h.erase fid o u at (same.back u r) id;
+  make = λ u shown. h.make u (shown_same (same_back same) u shown);
+  rewrite = λ fid o u at r id file. h.rewrite fid o u at (same.back u r) id file;
+  place = λ fid o u at limbo shown id. h.place fid o u at limbo (shown_same (same_back same) u shown) id;
+  unstage = h.unstage;
+  skip = h.skip;
+}
+
+-- so it does where another is drained
+stays_drained : (s : Scene) (i j : ℕ) (steps : List InstallStep) (new : World) → IsSoundWorld s.world → IsDrainedAt s.world i → Drains s j steps None new → IsDrainedAt new i
+stays_drained s i j steps new h drained drains = by (cases_eq i j)
+  where
+    by : (i ≡ j) ⊎ (i ≢ j) → IsDrainedAt new i
+    by (inl e) = subst (IsDrainedAt new) (sym e) (drain_drains s j steps new drains)
+    by (inr n) =
+        let is = (drains_pass s j steps None new h drains).others i n in
+        subst (λ (x : Member). IsDrained (IsRecordOf new i) i x.volume x.staged x.consumed) is
+        (drained_same i (IsRecordOf s.world i) (IsRecordOf new i) (s.world.at i).volume (s.world.at i).staged (s.world.at i).consumed (drains_same s j steps None new h drains i) drained)
+
+same_trans : {R S T : Update → Type 0} → AreSame R S → AreSame S T → AreSame R T
+same_trans p q = record { to = λ u r. q.to u (p.to u r); back = λ u r. p.back u (q.back u r) }
+
+pub pairs_print_alike : DrainedPairsPrintAlike
+pairs_print_alike s i j first second mid new h same drains drains' =
+    let p = drains_pass s i first None mid h.world drains in
+    let q = drains_pass (in_world s mid) j second None new p.sound drains' in
+    let equal = equal_records s.world s.world h.world.invariant.versions (grows_refl s.world) i j same in
+    records_alike (in_world s new) (in_world s new) q.sound.invariant q.sound.invariant i j
+    (same_trans (same_back (stay p.sound i)) (same_trans (record { to = λ u. (equal u).0; back = λ u. (equal u).1 }) (stay p.sound j)))
+    (stays_drained (in_world s mid) i j second new p.sound (drain_drains s i first mid drains) drains') (drain_drains (in_world s mid) j second new drains')
+  where
+    stay : IsSoundWorld mid → (k : ℕ) → AreSame (IsRecordOf s.world k) (IsRecordOf new k)
+    stay sound k = same_trans (drains_same s i first None mid h.world drains k) (drains_same (in_world s mid) j second None new sound drains' k)
