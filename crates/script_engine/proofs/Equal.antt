@@ -325,11 +325,14 @@ keeps_skip w d h = record {
       subst (λ z. plus (w.at d).known (record { db = d; version = (w.at d).consumed }) z ≡ true) (sym is) (plus_new (w.at d).known (record { db = d; version = (w.at d).consumed }));
 }
 
+operates_keep : (s : Scene) (d : ℕ) (step : InstallStep) (new : World) → OperatesStep s d step new → KeepsIn s.world d new
+operates_keep s d step new (op, of_step, gives, (quiet, due, ok, is)) = keeps_member s.world d (operated d op (s.world.at d)) new is (keeps_as s.world d (operated d op (s.world.at d)) refl refl)
+
 does_keep : (s : Scene) (d : ℕ) (step : InstallStep) (new : World) → Invariant s.world → DoesStep s d step new → KeepsIn s.world d new
 does_keep s d (Unstage uid) new h (fid, o, at, id, staged, is) = keeps_member s.world d (unstaged_at uid (s.world.at d)) new is (keeps_as s.world d (unstaged_at uid (s.world.at d)) refl refl)
 does_keep s d (Skip usn) new h (same, fits, records, is) =
     subst (KeepsIn s.world d) (sym is) (keeps_by s.world d (consumed_by d None (s.world.at d)) (consumes s.world d None) (at_same s.world.at d (consumed_by d None (s.world.at d))) (keeps_skip s.world d h))
-does_keep s d step new h (op, of_step, gives, (quiet, due, ok, is)) = keeps_member s.world d (operated d op (s.world.at d)) new is (keeps_as s.world d (operated d op (s.world.at d)) refl refl)
+does_keep s d step new h operated = operates_keep s d step new operated
 
 installs_keep : (s : Scene) (d : ℕ) (outcome : Result (Option InstallStep) Refusal) (new : World) → Invariant s.world → Installs s d outcome new → KeepsIn s.world d new
 installs_keep s d (Ok None) new h (drained, is) = subst (KeepsIn s.world d) (sym is) (keeps_itself s.world d)
