@@ -1,6 +1,6 @@
 -- Members that cover the same versions print the same trees, once they are drained.
 use Rattle.std.proofs.Common.{◌≡◌, ◌≢◌, ◌<◌, ◌≤◌, ◌⊎◌, ◌++◌, ℕ, true, cond, not, List, [], ◌∷◌, length, map, refl, sym, ap, ◌∙◌, subst, arith, inl, inr, Option, Some, None, Result, Ok, Err}
-use Rattle.std.specs.Prelude.{codes, decimal, filter, flat_map}
+use Rattle.std.specs.Prelude.{codes, decimal, flat_map}
 use Rattle.std.specs.List.{AllByRecursion}
 use Rattle.std.proofs.lemmas.Bool.{cases_eq, cases_lt}
 use Rattle.frs_base.specs.Options.{In}
@@ -38,7 +38,7 @@ use Rattle.world_model.proofs.Trees.{drained_trees}
 use Rattle.script_engine.specs.declared.refusal.Refusal.{Refusal}
 use Rattle.script_engine.specs.Printed.{printed}
 use Rattle.script_engine.specs.Scene.{Scene, in_world}
-use Rattle.script_engine.specs.Sound.{IsSoundScene, IsSoundWorld}
+use Rattle.script_engine.specs.Sound.{IsSoundWorld}
 use Rattle.script_engine.specs.Trees.{IsByPath, IsTreeOf, Row, files_of, path_lt, path_word, row_text, row_words, sum_text, sums_text, tree_text}
 use Rattle.script_engine.specs.Installing.{DoesStep, Drains, Installs, OperatesStep, end_of}
 use Rattle.script_engine.specs.Equal.{AreAlike, DrainedPairsPrintAlike, DrainsCoverTheirOwn, DrainsKeepRecords, DrainsLeaveDrained, EqualRecordsPrintAlike, EqualTrees, FreshVolumesAreAlike, PrintAlike}
