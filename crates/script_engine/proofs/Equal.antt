@@ -114,7 +114,7 @@ row_line : (kind : Kind) (path : List (List ℕ)) (bytes : List ℕ) → printed
 row_line Directory path bytes = refl
 row_line File path bytes = refl
 
--- what a tree prints is what is seen of its rows
+-- what `tree` prints of what is seen of rows
 abbrev tree_of : List (List (List ℕ) × (Kind × ℕ)) → List ℕ
 tree_of [] = printed (codes "tree" ∷ codes "empty" ∷ [])
 tree_of (v ∷ vs) = flat_map line_of (v ∷ vs)
@@ -131,17 +131,17 @@ tree_seen (row ∷ rows) = lines_seen (row ∷ rows)
 abbrev sum_seen : Object → Kind × Sum
 sum_seen o = (o.kind, hash_of o)
 
--- the line of a file's sum, and what is before the next lines
+-- the line of a file's sum, before other lines; a directory has none
 abbrev before : Kind → List (List ℕ) → Sum → List (List ℕ) → List (List ℕ)
 before Directory path sum rest = rest
 before File path sum rest = printed (encode_lower sum.0 ∷ path_word path ∷ []) ∷ rest
 
--- the lines of sums
+-- the lines of the sums that are seen
 abbrev sum_lines : List (List (List ℕ) × (Kind × Sum)) → List (List ℕ)
 sum_lines [] = []
 sum_lines (v ∷ vs) = before v.1.0 v.0 v.1.1 (sum_lines vs)
 
--- what they print
+-- what `sums` prints of such lines
 abbrev sums_of : List (List ℕ) → List ℕ
 sums_of [] = printed (codes "sums" ∷ codes "empty" ∷ [])
 sums_of (line ∷ lines) = flat_map (λ text. text) (line ∷ lines)
@@ -264,7 +264,7 @@ pub drain_drains : DrainsLeaveDrained
 drain_drains s d [] new (drained, is) = subst (λ w. IsDrainedAt w d) (sym is) drained
 drain_drains s d (step ∷ steps) new (mid, first, rest) = drain_drains (in_world s mid) d steps new rest
 
--- what becomes of a member, where all updates are these then
+-- a member comes to this, where all updates are these then: its records stay, and it covers what it covered and what it consumed since
 record Keeps (w : World) (d : ℕ) (all : List Update) (x : Member) : Type 0 where
   records : AreSame (IsRecordOf w d) (IsRecord all x.known)
   more : (w.at d).consumed ≤ x.consumed
@@ -272,7 +272,7 @@ record Keeps (w : World) (d : ℕ) (all : List Update) (x : Member) : Type 0 whe
   old : (g : Gvsn) → (w.at d).known g ≡ true → x.known g ≡ true
   passed : (g : Gvsn) → g.db ≡ d → (w.at d).consumed ≤ g.version → g.version < x.consumed → x.known g ≡ true
 
--- in the world that comes of it
+-- it does so from one world to another
 abbrev KeepsIn : World → ℕ → World → Type 0
 KeepsIn w d new = Keeps w d new.all (new.at d)
 
@@ -307,7 +307,7 @@ keeps_trans w d mid new p q = record {
   ];
 }
 
--- an event that leaves what the member covers and has consumed
+-- so the world does where it changes nothing but the member
 keeps_member : (w : World) (d : ℕ) (x : Member) (new : World) → new ≡ with_member w d x → Keeps w d w.all x → KeepsIn w d new
 keeps_member w d x new is k = subst (KeepsIn w d) (sym is) (keeps_by w d x (with_member w d x) (at_same w.at d x) k)
 
@@ -367,7 +367,7 @@ drains_keep_records s d steps why new h drains j u = let same = drains_same s d 
 
 -- ---- two drains
 
--- a drained member stays drained where it and its records are the same
+-- with the same records a member that is drained is drained
 drained_same : (own : ℕ) (R S : Update → Type 0) (m : Maps) (staged : Uid → Option Sum) (consumed : ℕ) → AreSame R S → IsDrained R own m staged consumed → IsDrained S own m staged consumed
 drained_same own R S m staged consumed same h = record {
   quiet = h.quiet;
@@ -380,7 +380,7 @@ drained_same own R S m staged consumed same h = record {
   skip = h.skip;
 }
 
--- so it does where another is drained
+-- it stays drained while another is drained
 stays_drained : (s : Scene) (i j : ℕ) (steps : List InstallStep) (new : World) → IsSoundWorld s.world → IsDrainedAt s.world i → Drains s j steps None new → IsDrainedAt new i
 stays_drained s i j steps new h drained drains = by (cases_eq i j)
   where
