@@ -102,8 +102,8 @@ pub fn equal_vectors_print_equal_trees()
 
 /// A member whose drain isn't refused is drained. Every drain leaves each member its records, and
 /// lets the drained one cover the journal records that it consumed, and no more. So members that
-/// cover the same versions print the same once each was drained, though by then each covers some
-/// versions of its own.
+/// cover the same versions print the same once each was drained, though by then each may cover
+/// versions of its own that the other doesn't.
 pub fn drains_leave_drained()
     ensures drained { DrainsLeaveDrained }
     ensures covered { DrainsCoverTheirOwn }
