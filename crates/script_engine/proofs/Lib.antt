@@ -43,5 +43,6 @@ pub mod Once
 pub mod OneText
 pub mod Lasting
 pub mod Listed
+pub mod Equal
 pub mod Prints
 pub mod Runs

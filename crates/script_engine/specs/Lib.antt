@@ -18,3 +18,4 @@ pub mod Engines
 pub mod Pulls
 pub mod Histories
 pub mod Scripts
+pub mod Equal

@@ -1,4 +1,5 @@
 // Laws of the definitions.
+ghost use Rattle.script_engine.specs.Equal.{DrainedPairsPrintAlike, DrainsCoverTheirOwn, DrainsKeepRecords, DrainsLeaveDrained, EqualRecordsPrintAlike, EqualTrees, FreshVolumesAreAlike};
 ghost use Rattle.script_engine.specs.Laws.{PagesAreAsked, PullsAreRounds, TreesAreOne, VolumesHaveTrees};
 ghost use Rattle.script_engine.specs.Scripts.{BeginningsGoOn, BeginningsKeepScenesSound, EqualRecords, EveryLinePrints, EveryScriptPrints, FreshScenesAreSound, LinesKeepScenesSound, LinesPrintOneText, OneText, RecordedIsCovered, RunsKeepScenesSound, RunsPrintOneText, StaysCovered};
 
@@ -87,4 +88,25 @@ pub fn stays_covered()
 /// Members that cover the same versions have the same records, at one moment of a run or at two.
 pub fn equal_vectors_have_equal_records()
     ensures { EqualRecords }
+{}
+
+/// Drained members that cover the same versions, or only have the same records, print the same
+/// sums; and the same tree, where files of one sum have one length. Contents are compared by their
+/// sums alone, so lengths are not told apart where sums are not. A volume with nothing in it is
+/// alike to each.
+pub fn equal_vectors_print_equal_trees()
+    ensures vectors { EqualTrees }
+    ensures records { EqualRecordsPrintAlike }
+    ensures fresh { FreshVolumesAreAlike }
+{}
+
+/// A member whose drain isn't refused is drained. Every drain leaves each member its records, and
+/// lets the drained one cover the journal records that it consumed, and no more. So members that
+/// cover the same versions print the same once each was drained, though by then each may cover
+/// versions of its own that the other doesn't.
+pub fn drains_leave_drained()
+    ensures drained { DrainsLeaveDrained }
+    ensures covered { DrainsCoverTheirOwn }
+    ensures records { DrainsKeepRecords }
+    ensures pairs { DrainedPairsPrintAlike }
 {}

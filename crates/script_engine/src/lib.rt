@@ -18,10 +18,11 @@ mod words;
 pub use consumed::Consumed;
 pub use engine::Engine;
 pub use laws::{
-    beginnings_go_on, beginnings_keep_scenes_sound, equal_vectors_have_equal_records,
-    every_line_prints, every_script_prints, fresh_scenes_are_sound, lines_keep_scenes_sound,
-    lines_print_one_text, one_text, pulls_are_rounds, recorded_is_covered, runs_keep_scenes_sound,
-    runs_print_one_text, stays_covered, trees_are_one, volumes_have_trees,
+    beginnings_go_on, beginnings_keep_scenes_sound, drains_leave_drained,
+    equal_vectors_have_equal_records, equal_vectors_print_equal_trees, every_line_prints,
+    every_script_prints, fresh_scenes_are_sound, lines_keep_scenes_sound, lines_print_one_text,
+    one_text, pulls_are_rounds, recorded_is_covered, runs_keep_scenes_sound, runs_print_one_text,
+    stays_covered, trees_are_one, volumes_have_trees,
 };
 pub use names::MemberName;
 pub use records::records_text;
