@@ -44,6 +44,7 @@ use Rattle.script_engine.specs.Installing.{DoesStep, Drains, Installs, OperatesS
 use Rattle.script_engine.specs.Equal.{AreAlike, DrainedPairsPrintAlike, DrainsCoverTheirOwn, DrainsKeepRecords, DrainsLeaveDrained, EqualRecordsPrintAlike, EqualTrees, FreshVolumesAreAlike, PrintAlike}
 use Rattle.script_engine.proofs.Drained.{drains_pass}
 use Rattle.script_engine.proofs.Installed.{installs_pass}
+use Rattle.script_engine.proofs.Stepping.{drained_same}
 use Rattle.script_engine.proofs.Lasting.{run_grows}
 use Rattle.script_engine.proofs.Ordered.{path_apart, path_trans}
 use Rattle.script_engine.proofs.Orders.{Sorted, sorted_one}
@@ -367,19 +368,6 @@ drains_keep_records s d steps why new h drains j u = let same = drains_same s d 
 
 -- ---- two drains
 
--- with the same records a member that is drained is drained
-drained_same : (own : ℕ) (R S : Update → Type 0) (m : Maps) (staged : Uid → Option Sum) (consumed : ℕ) → AreSame R S → IsDrained R own m staged consumed → IsDrained S own m staged consumed
-drained_same own R S m staged consumed same h = record {
-  quiet = h.quiet;
-  park = λ fid o p at place. let (u, shown, id, up, name) = h.park fid o p at place in (u, shown_same same u shown, id, up, name);
-  erase = λ fid o u at r id. h.erase fid o u at (same.back u r) id;
-  make = λ u shown. h.make u (shown_same (same_back same) u shown);
-  rewrite = λ fid o u at r id file. h.rewrite fid o u at (same.back u r) id file;
-  place = λ fid o u at limbo shown id. h.place fid o u at limbo (shown_same (same_back same) u shown) id;
-  unstage = h.unstage;
-  skip = h.skip;
-}
-
 -- it stays drained while another is drained
 stays_drained : (s : Scene) (i j : ℕ) (steps : List InstallStep) (new : World) → IsSoundWorld s.world → IsDrainedAt s.world i → Drains s j steps None new → IsDrainedAt new i
 stays_drained s i j steps new h drained drains = by (cases_eq i j)
@@ -389,7 +377,7 @@ stays_drained s i j steps new h drained drains = by (cases_eq i j)
     by (inr n) =
         let is = (drains_pass s j steps None new h drains).others i n in
         subst (λ (x : Member). IsDrained (IsRecordOf new i) i x.volume x.staged x.consumed) is
-        (drained_same i (IsRecordOf s.world i) (IsRecordOf new i) (s.world.at i).volume (s.world.at i).staged (s.world.at i).consumed (drains_same s j steps None new h drains i) drained)
+        (drained_same (drains_same s j steps None new h drains i) i (s.world.at i).volume (s.world.at i).staged (s.world.at i).consumed drained)
 
 same_trans : {R S T : Update → Type 0} → AreSame R S → AreSame S T → AreSame R T
 same_trans p q = record { to = λ u r. q.to u (p.to u r); back = λ u r. p.back u (q.back u r) }

@@ -73,7 +73,7 @@ candidate_same same own m staged consumed (Place uid) (fid, o, u, at, is, limbo,
 candidate_same same own m staged consumed (Unstage uid) c = c
 candidate_same same own m staged consumed (Skip usn) c = c
 
-drained_same : {R S : Update → Type 0} → AreSame R S → (own : ℕ) (m : Maps) (staged : Uid → Option Sum) (consumed : ℕ) → IsDrained R own m staged consumed → IsDrained S own m staged consumed
+pub drained_same : {R S : Update → Type 0} → AreSame R S → (own : ℕ) (m : Maps) (staged : Uid → Option Sum) (consumed : ℕ) → IsDrained R own m staged consumed → IsDrained S own m staged consumed
 drained_same same own m staged consumed h = record {
   quiet = h.quiet;
   park = λ fid o p at place. in_place_same same own m o p (h.park fid o p at place);
