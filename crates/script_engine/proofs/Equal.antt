@@ -8,7 +8,6 @@ use Rattle.frs_base.specs.declared.kind.Kind.{Kind}
 use Rattle.frs_base.specs.declared.kind.Kind.TheVariants.{File, Directory}
 use Rattle.frs_base.specs.declared.sum.Sum.{Sum}
 use Rattle.frs_base.specs.declared.version.Gvsn.{Gvsn}
-use Rattle.frs_base.specs.declared.version.Uid.{Uid}
 use Rattle.hex.specs.Hex.{encode_lower}
 use Rattle.win_order.specs.declared.update.Update.{Update}
 use Rattle.vol_state.specs.declared.object.Object.{Object}
@@ -24,7 +23,7 @@ use Rattle.name_rules.specs.Recorded.{hash_of}
 use Rattle.name_rules.specs.Tree.{IsVolumeRow, StandsAt}
 use Rattle.name_rules.specs.declared.step.Step.{Step as InstallStep}
 use Rattle.name_rules.specs.declared.step.Step.TheVariants.{Skip, Unstage}
-use Rattle.name_rules.proofs.Showing.{AreSame, row_same, same_back, shown_same}
+use Rattle.name_rules.proofs.Showing.{AreSame, row_same, same_back}
 use Rattle.world_model.specs.World.{Member, World, IsRecordOf, with_member}
 use Rattle.world_model.specs.Events.{consumed_by, consumes, operated, unstaged_at}
 use Rattle.world_model.specs.Invariant.{Invariant}
