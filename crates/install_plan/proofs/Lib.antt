@@ -1,7 +1,7 @@
-pub mod Lowest
 pub mod Locals
-pub mod Held
-pub mod OfObjects
-pub mod Answered
-pub mod Making
-pub mod Turns
+mod Held
+mod Answered
+mod Tested
+mod Firsts
+mod Steps
+mod Listing

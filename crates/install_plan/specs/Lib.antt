@@ -1,4 +1,5 @@
 pub mod Staged
 pub mod Objects
-pub mod Least
-pub mod First
+pub mod Done
+pub mod Passing
+pub mod Agenda

@@ -6,6 +6,7 @@ use Rattle.win_order.specs.declared.update.Update.{Update}
 use Rattle.vol_state.specs.declared.object.Object.{Object}
 use Rattle.vol_state.specs.Maps.{maps_of}
 use Rattle.vol_state.specs.State.{State, uid_of}
+use Rattle.vol_state.specs.Tables.{IsAt}
 use Rattle.name_rules.specs.Next.{IsInPlace}
 use Rattle.name_rules.specs.Shown.{Among}
 use Rattle.name_rules.specs.Tree.{IsShown, is_file}
@@ -51,3 +52,15 @@ IsAwaited v records o = (o.place ≡ None) × ((u : Update) × IsShownOf records
 -- what is staged of its file has its sum
 abbrev pub IsInstalled : State → BookState → Object → Type 0
 IsInstalled v book o = staged_hashes book (uid_of v.own o) ≡ Some o.sum
+
+-- no kind of step is needed for it
+pub record IsSettled (v : State) (book : BookState) (o : Object) : Type 0 where
+  pub home : IsHome v book.records o
+  pub present : IsPresent v book.records o
+  pub current : IsUpToDate v book.records o
+  pub placed : IsAwaited v book.records o → ⊥
+  pub cleared : IsInstalled v book o → ⊥
+
+-- a file has an object
+abbrev pub HasObject : State → Uid → Type 0
+HasObject v uid = (fid : ℕ) × (o : Object) × IsAt (maps_of v) fid o × (uid_of v.own o ≡ uid)

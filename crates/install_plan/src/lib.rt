@@ -1,13 +1,17 @@
 //! What the installer of a member does next.
 //!
-//! Read [`next_step`] first, and then `name_rules`, where the definitions of the steps stand.
+//! Read [`next_step`] first, and then `name_rules`, where the definitions of the steps stand. An
+//! [`Agenda`] keeps what is to be looked at from one step to the next.
 #![tactic(auto)]
 
+mod agenda;
+mod files;
 mod first;
-mod least;
 mod next;
 mod objects;
+mod passing;
 mod pending;
 mod records;
 
-pub use next::{next_of, next_step};
+pub use agenda::Agenda;
+pub use next::next_step;

@@ -1,12 +1,12 @@
 // What is to be done to an object.
-ghost use Rattle.std.specs.Prelude.{◌≡◌, ◌↔◌, IsTrue, MatchBool};
+ghost use Rattle.std.specs.Prelude.{◌≡◌, ◌↔◌, true, IsTrue, MatchBool};
 ghost use Rattle.vol_state.specs.Conditions.{root_uid};
 ghost use Rattle.vol_state.specs.Maps.{maps_of};
 ghost use Rattle.name_rules.specs.Next.{IsInPlace};
 ghost use Rattle.name_rules.specs.Recorded.{parent_uid};
 ghost use Rattle.name_rules.specs.Shown.{AreShown, Among};
 ghost use Rattle.record_db.specs.State.{IsBook};
-ghost use Rattle.install_plan.specs.Objects.{IsAstray, IsAwaited, IsHome, IsInstalled, IsOutdated, IsPresent, IsRemoved, IsUpToDate};
+ghost use Rattle.install_plan.specs.Objects.{IsAstray, IsAwaited, IsHome, IsInstalled, IsOutdated, IsPresent, IsRemoved, IsSettled, IsUpToDate};
 
 use crate::records::shown_record;
 use frs_base::{Name, Uid, content_set};
@@ -115,4 +115,25 @@ pub(crate) fn is_installed(volume: &Volume, book: &Book, object: &Object) -> boo
         None => false,
         Some(update) => update.hash == object.sum,
     }
+}
+
+/// Whether no kind of step is needed for the object.
+pub(crate) fn is_settled(volume: &Volume, book: &Book, shown: &[Uid], object: &Object) -> bool
+    requires book { IsBook book.now.state }
+    requires shown { AreShown book.now.state.records shown.now }
+    ensures { result ≡ true → IsSettled volume.now.state book.now.state object.now }
+{
+    if is_astray(volume, book, shown, object) {
+        return false;
+    }
+    if is_removed(volume, book, object) {
+        return false;
+    }
+    if is_outdated(volume, book, object) {
+        return false;
+    }
+    if is_awaited(volume, book, shown, object) {
+        return false;
+    }
+    !is_installed(volume, book, object)
 }

@@ -10,7 +10,7 @@ use record_db::Book;
 use win_order::Update;
 
 /// Whether the UID is one of these, which are in order.
-fn is_among(uids: &[Uid], uid: &Uid) -> bool
+pub(crate) fn is_among(uids: &[Uid], uid: &Uid) -> bool
     requires { AreByUid uids.now }
     ensures { IsTrue result ↔ In uid.now uids.now }
 {

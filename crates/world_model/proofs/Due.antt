@@ -99,7 +99,7 @@ pub site : (own : ℕ) (m : Maps) (f : ℕ) (o : Object) (uid : Uid) → PlacesA
 site own m f o uid tree at is = record { there = at; is = is; only = λ g z k. let e : g ≡ f = tree.uids g f z o k.0 at (k.1 ∙ sym is) in (e, some_is o z (sym at ∙ subst (λ i. m.at i ≡ Some z) e k.0)) }
 
 -- likewise of an object that is written, where no other is of the file
-site_written : (own : ℕ) (m : Maps) (f : ℕ) (y : Object) (e : VolRecord) (uid : Uid) → ((g : ℕ) (z : Object) → g ≢ f → IsAt m g z → uid_of own z ≢ uid) → uid_of own y ≡ uid
+pub site_written : (own : ℕ) (m : Maps) (f : ℕ) (y : Object) (e : VolRecord) (uid : Uid) → ((g : ℕ) (z : Object) → g ≢ f → IsAt m g z → uid_of own z ≢ uid) → uid_of own y ≡ uid
     → IsSite own (wrote m f (Some y) e) uid f y
 site_written own m f y e uid others is = record {
   there = there m f (Some y) e;
@@ -150,11 +150,11 @@ sees_alike R own m new staged uid v v' s s' = (
 -- ---- other files
 
 -- the directories of placed objects keep their UIDs
-abbrev ParentsStay : ℕ → Maps → Maps → Type 0
+abbrev pub ParentsStay : ℕ → Maps → Maps → Type 0
 ParentsStay own m new = (g : ℕ) (o : Object) (p : ℕ × List ℕ) → IsAt m g o → o.place ≡ Some p → parent_uid own new p.0 ≡ parent_uid own m p.0
 
 -- a file's objects are the same in two volumes, and so are the UIDs of their directories
-record StaysSo (own : ℕ) (m new : Maps) (uid : Uid) : Type 0 where
+pub record StaysSo (own : ℕ) (m new : Maps) (uid : Uid) : Type 0 where
   pub to : (g : ℕ) (z : Object) → IsObject own m uid g z → IsAt new g z
   pub back : (g : ℕ) (z : Object) → IsObject own new uid g z → IsAt m g z
   pub parents : ParentsStay own m new
@@ -182,7 +182,7 @@ view_stays R own m new staged uid v v' k s s' =
         (λ (g, z, u, h, r, id, ne). (g, z, u, (k.back g z h, h.1), r, id, ne))
 
 -- so what isn't of the written object's file stays so
-stays_so : (own : ℕ) (m : Maps) (f : ℕ) (o : Option Object) (e : VolRecord) (uid : Uid) → ((z : Object) → m.at f ≡ Some z → uid_of own z ≢ uid) → ((z : Object) → o ≡ Some z → uid_of own z ≢ uid) → ParentsStay own m (wrote m f o e)
+pub stays_so : (own : ℕ) (m : Maps) (f : ℕ) (o : Option Object) (e : VolRecord) (uid : Uid) → ((z : Object) → m.at f ≡ Some z → uid_of own z ≢ uid) → ((z : Object) → o ≡ Some z → uid_of own z ≢ uid) → ParentsStay own m (wrote m f o e)
     → StaysSo own m (wrote m f o e) uid
 stays_so own m f o e uid old new parents = record {
   to = λ g z h. beside m f o e g (Some z) (λ i. old z (subst (λ j. m.at j ≡ Some z) i h.0) h.1) h.0;
@@ -196,14 +196,14 @@ parent_same : (own : ℕ) (m new : Maps) (fid : ℕ) → uid_found own (new.at f
 parent_same own m new fid e = ap (cond (eqb fid 0) root_uid) e
 
 -- an object is changed, but not its UID
-parents_changed : (own : ℕ) (m : Maps) (f : ℕ) (o y : Object) (e : VolRecord) → IsAt m f o → uid_of own y ≡ uid_of own o → (fid : ℕ) → parent_uid own (wrote m f (Some y) e) fid ≡ parent_uid own m fid
+pub parents_changed : (own : ℕ) (m : Maps) (f : ℕ) (o y : Object) (e : VolRecord) → IsAt m f o → uid_of own y ≡ uid_of own o → (fid : ℕ) → parent_uid own (wrote m f (Some y) e) fid ≡ parent_uid own m fid
 parents_changed own m f o y e at is fid = parent_same own m (wrote m f (Some y) e) fid (elim (cases_eq fid f) [
   | inl s ↦ subst (λ i. uid_found own ((wrote m f (Some y) e).at i) ≡ uid_found own (m.at i)) (sym s) (ap (uid_found own) (there m f (Some y) e) ∙ (is ∙ sym (ap (uid_found own) at)))
   | inr n ↦ ap (uid_found own) (beside m f (Some y) e fid (m.at fid) n refl)
 ])
 
 -- an object of another number is written or goes
-parents_beside : (own : ℕ) (m : Maps) (f : ℕ) (o : Option Object) (e : VolRecord) → ((g : ℕ) (z : Object) (p : ℕ × List ℕ) → IsAt m g z → z.place ≡ Some p → p.0 ≢ f) → ParentsStay own m (wrote m f o e)
+pub parents_beside : (own : ℕ) (m : Maps) (f : ℕ) (o : Option Object) (e : VolRecord) → ((g : ℕ) (z : Object) (p : ℕ × List ℕ) → IsAt m g z → z.place ≡ Some p → p.0 ≢ f) → ParentsStay own m (wrote m f o e)
 parents_beside own m f o e apart g z p at place = parent_same own m (wrote m f o e) p.0 (ap (uid_found own) (beside m f o e p.0 (m.at p.0) (apart g z p at place) refl))
 
 -- ---- one file less, and the others as they were

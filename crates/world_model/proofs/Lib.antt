@@ -27,6 +27,7 @@ pub mod Trees
 pub mod Progress
 pub mod Deciding
 pub mod Due
+pub mod Beside
 pub mod Views
 mod Drained
 pub mod Next
