@@ -26,7 +26,8 @@ use Rattle.record_db.specs.State.{form_of}
 use Rattle.record_db.proofs.Lists.{find_at}
 use Rattle.record_db.proofs.Keys.{same_uid_is, same_uid_refl}
 use Rattle.name_rules.specs.Recorded.{held_of, parent_uid}
-use Rattle.name_rules.specs.Next.{IsAnswer, IsThere}
+use Rattle.name_rules.specs.Next.{IsAnswer, IsCandidate, IsThere}
+use Rattle.name_rules.specs.Shown.{Among}
 use Rattle.name_rules.specs.Tree.{kind_of}
 use Rattle.name_rules.specs.declared.step.Next.{Next}
 use Rattle.name_rules.specs.declared.step.Next.TheVariants as next
@@ -34,6 +35,7 @@ use Rattle.name_rules.specs.declared.step.Step.{Step}
 use Rattle.name_rules.specs.declared.step.Step.TheVariants.{Erase, Make, Park, Place, Rewrite}
 use Rattle.name_rules.proofs.Parents.{parent_is}
 use Rattle.name_rules.proofs.Showing.{shown_record}
+use Rattle.install_plan.specs.Done.{Needs}
 use Rattle.install_plan.specs.Staged.{staged_hash, staged_hashes}
 use Rattle.world_model.specs.Folder.{AreStaged, GivesStaged}
 use Rattle.world_model.proofs.Alone.{has_home, steps_fit}
@@ -110,7 +112,7 @@ number : (m : Machine) (fid : ℕ) (o : Object) → IsAt (maps_of m.volume) fid 
 number m fid o at = (at_in fid o m.volume.objects at).1
 
 -- the operation of a next step may be done, by the volume's test
-test_of : (m : Machine) → IsSound m → (step : Step) (op : VolCmd) → IsNextOf m (next.Do step) → IsOperation m step op → is_allowed op m.volume ≡ true
+pub test_of : (m : Machine) → IsSound m → (step : Step) (op : VolCmd) → IsNextOf m (next.Do step) → IsOperation m step op → is_allowed op m.volume ≡ true
 test_of m h step op n is = allowed_of m h op (may_install m h step op n is)
 
 pub parks : (m : Machine) → IsSound m → (uid : Uid) → IsNextOf m (next.Do (Park uid)) → IsReady m (Park uid) (rep.Park uid)
@@ -234,7 +236,7 @@ next_at m now step path n = subst (λ x. IsNextOf x (next.Do step)) (sym path) n
 -- ---- what the installer does next
 
 -- the hash of a file's record is the sum of the form that is staged of it
-hash_is : (m : Machine) → IsSound m → (uid : Uid) → staged_hashes m.book uid ≡ staged_sums m.book uid
+pub hash_is : (m : Machine) → IsSound m → (uid : Uid) → staged_hashes m.book uid ≡ staged_sums m.book uid
 hash_is m h uid = by (form_of m.book uid) refl
   where
     by : (form : Option (List ℕ)) → form_of m.book uid ≡ form → staged_hash form (held_of m.book.records uid) ≡ option_map form_sum form
@@ -249,6 +251,12 @@ pub next_is : (m now : Machine) (r : Result Next AllocError) → m ≡ now → I
 next_is m now (Ok n) path h a =
     subst (λ x. IsNextOf x n) path (subst (λ s. IsAnswer (λ u. In u m.book.records) m.book.own (maps_of m.volume) s m.book.consumed n) (λ i. λ uid. hash_is m h uid i) a)
 next_is m now (Err e) path h a = tt
+
+-- and what the machine does next is needed by the plan
+pub needs_of : (m : Machine) → IsSound m → (step : Step) → IsNextOf m (next.Do step) → Needs m.volume m.book step
+needs_of m h step (quiet, n) =
+    subst (λ own. IsCandidate (Among m.book.records) own (maps_of m.volume) (staged_hashes m.book) m.book.consumed step) (sym h.order.own)
+    (subst (λ s. IsCandidate (Among m.book.records) m.book.own (maps_of m.volume) s m.book.consumed step) (λ i. λ uid. sym (hash_is m h uid) i) n.candidate)
 
 -- ---- records
 

@@ -12,3 +12,4 @@ pub mod Finishing
 pub mod Replaying
 pub mod OneAnswer
 pub mod Installing
+pub mod Planned

@@ -15,6 +15,8 @@ use Rattle.name_rules.specs.declared.step.Next.{Next}
 use Rattle.name_rules.specs.declared.step.Next.TheVariants as next
 use Rattle.name_rules.specs.declared.step.Step.{Step}
 use Rattle.name_rules.specs.declared.step.Step.TheVariants.{Skip, Unstage}
+use Rattle.install_plan.specs.Agenda.{Agenda}
+use Rattle.install_plan.specs.Agenda as plan
 use Rattle.folder_core.specs.declared.refusal.Refusal.TheVariants as why
 use Rattle.folder_core.specs.declared.reply.Reply.{Reply}
 use Rattle.folder_core.specs.declared.reply.Reply.TheVariants.{Did, Drained}
@@ -68,6 +70,12 @@ AnswersNext (next.NotYet usn) old reply new = Refuses (why.NotYet usn) old reply
 -- so is what the installer does next
 abbrev pub AnswersInstall : Machine → Reply → Machine → Type 0
 AnswersInstall old reply new = (answer : Next) × IsNextOf old answer × AnswersNext answer old reply new
+
+-- ---- what is kept from one step to the next
+
+-- an agenda, if there is one, is of the machine
+abbrev pub IsPlanned : Machine → Option Agenda → Type 0
+IsPlanned m agenda = plan.IsPlanned m.volume m.book agenda
 
 -- ---- what may be done to the volume
 

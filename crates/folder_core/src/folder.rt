@@ -8,6 +8,7 @@ use crate::answer::Answer;
 use crate::machine::Machine;
 use crate::{Entry, Event, Note, Reply};
 use frs_base::{Guid, MemberKind, ReservedVec};
+use install_plan::Agenda;
 use record_db::Book;
 use std::alloc::{AllocError, Global};
 use std::marker::Model;
@@ -16,10 +17,11 @@ use vol_state::Volume;
 /// A member's volume and book, and the history of all that came to it.
 ///
 /// It is the replay of its history from a fresh member. A contract sees both states, the history,
-/// and the generation.
+/// and the generation; what the installer has still to look at is its own affair.
 #[derive(Drop)]
 pub struct Folder {
     machine: Machine,
+    agenda: Option<Agenda>,
     history: ReservedVec<Entry>,
     generation: u64,
 }
@@ -32,13 +34,14 @@ fn generation_after(moved: bool, at: u64, before: u64) -> u64
 }
 
 impl Model for Folder {
+    ghost use Rattle.folder_core.specs.Install.{IsPlanned};
     ghost use Rattle.folder_core.specs.Replay.{IsFolder, Seen};
 
     ghost Value = { Seen };
 
     ghost view = { λ f. record { machine = f.machine; history = f.history.items; generation = f.generation } };
 
-    ghost invariant = { λ f. IsFolder (record { machine = f.machine; history = f.history.items; generation = f.generation }) };
+    ghost invariant = { λ f. IsFolder (record { machine = f.machine; history = f.history.items; generation = f.generation }) × IsPlanned f.machine f.agenda };
 }
 
 impl Folder {
@@ -51,6 +54,7 @@ impl Folder {
     {
         Folder {
             machine: Machine::new(kind, own, set),
+            agenda: None,
             history: ReservedVec::empty(),
             generation: 0,
         }
@@ -101,7 +105,9 @@ impl Folder {
         let note = Note::of(alloc, &event)?;
         self.history.reserve_one(alloc)?;
         let sum = note.sum();
-        let Answer { reply, mark, moved } = self.machine.answer(alloc, at, event, sum)?;
+        let Answer { reply, mark, moved } = self
+            .machine
+            .answer(alloc, at, event, sum, &mut self.agenda)?;
         self.generation = generation_after(moved, at, self.generation);
         self.history.push(Entry {
             caller,

@@ -3,6 +3,7 @@ ghost use Rattle.std.specs.Prelude.{◌≡◌, ◌<◌, ◌-◌, ◌^◌, IfOk, 
 ghost use Rattle.frs_base.specs.Identifiers.{content_set};
 ghost use Rattle.folder_core.specs.Answers.{Answers};
 ghost use Rattle.folder_core.specs.Given.{IsNoted};
+ghost use Rattle.folder_core.specs.Install.{IsPlanned};
 ghost use Rattle.folder_core.specs.Machine.{fresh_machine};
 ghost use Rattle.folder_core.specs.Notes.{note_of, noted_sum};
 ghost use Rattle.folder_core.specs.Sound.{IsSound};
@@ -18,6 +19,7 @@ mod serve;
 use crate::Event;
 use crate::answer::Answer;
 use frs_base::{Guid, MemberKind, Sum};
+use install_plan::Agenda;
 use record_db::Book;
 use std::alloc::{AllocError, Global};
 use std::marker::Model;
@@ -73,20 +75,25 @@ impl Machine {
     }
 
     /// An event, whose entry is at this place, with the sum of the contents that a local operation
-    /// brings. After an error the machine is as it was.
+    /// brings. After an error the machine is as it was. An agenda lasts from one step of the installer
+    /// to the next; each other event forgets it.
     pub(crate) fn answer(
         &mut self,
         alloc: Global,
         at: u64,
         event: Event,
         sum: Option<Sum>,
+        agenda: &mut Option<Agenda>,
     ) -> Result<Answer, AllocError>
         requires numbers { self.old.volume.next_usn < 2 ^ 64 - 1 }
         requires sum { sum ≡ noted_sum (note_of event) }
+        requires planned { IsPlanned self.old agenda.old }
+        ensures planned { IsPlanned self.new agenda.new }
         ensures answers { IfOk result (λ answer. Answers at self.old event answer.reply self.new) }
         ensures noted { IfOk result (λ answer. IsNoted answer self.old self.new) }
         ensures err { OnErr result (self.new ≡ self.old) }
     {
+        let mut kept = agenda.take();
         match event {
             Event::Local(operation) => self.local(alloc, operation, sum),
             Event::Consume { moment } => self.consume(alloc, moment),
@@ -104,7 +111,11 @@ impl Machine {
                 sent,
                 seen,
             } => self.finish(alloc, sent, seen.as_slice()),
-            Event::Install => self.install(alloc),
+            Event::Install => {
+                let answer = self.install(alloc, &mut kept)?;
+                *agenda = kept;
+                Ok(answer)
+            }
         }
     }
 }

@@ -1,7 +1,7 @@
 pub mod Locals
-mod Held
+pub mod Held
 mod Answered
 mod Tested
 mod Firsts
-mod Steps
+pub mod Steps
 mod Listing

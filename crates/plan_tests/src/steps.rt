@@ -23,7 +23,7 @@ fn step_text(alloc: Global, step: Step) -> Result<String, Fail> {
     }
 }
 
-/// What is done next, as a text, where the volume and the book are of one member.
+/// What is done next, as a text, by a new agenda and by the one that is left, where the volume and the book are of one member.
 fn answer(alloc: Global, volume: &Volume, book: &Book) -> Result<String, Fail>
     requires { IsNumbered volume.now.state }
 {
@@ -34,7 +34,12 @@ fn answer(alloc: Global, volume: &Volume, book: &Book) -> Result<String, Fail>
     if consumed < 9 || volume.next_usn() < consumed {
         return Err("no such USN")?;
     }
-    match next_step(alloc, volume, book)? {
+    let mut agenda = None;
+    let next = next_step(alloc, volume, book, &mut agenda)?;
+    if next_step(alloc, volume, book, &mut agenda)? != next {
+        return Err("another answer by the agenda")?;
+    }
+    match next {
         Next::Drained => Ok(String::from_str(alloc, "drained")?),
         Next::NotYet { usn } => Ok(format!(in alloc; "not yet {usn}")?),
         Next::Do(step) => step_text(alloc, step),

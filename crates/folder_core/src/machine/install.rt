@@ -1,18 +1,21 @@
 // Steps of the installer.
-ghost use Rattle.std.specs.Prelude.{◌≡◌, ◌<◌, ◌-◌, ◌^◌, false, IfOk, OnErr, option_copied};
+ghost use Rattle.std.specs.Prelude.{◌≡◌, ◌<◌, ◌-◌, ◌^◌, false, IfOk, Ok, OnErr, option_copied};
+ghost use Rattle.install_plan.specs.Agenda.{IsLast};
+ghost use Rattle.name_rules.specs.declared.step.Step.{Step};
 ghost use Rattle.name_rules.specs.declared.step.Next.TheVariants as next;
 ghost use Rattle.name_rules.specs.declared.step.Step.TheVariants.{Erase, Make, Park, Place, Rewrite, Skip, Unstage};
 ghost use Rattle.folder_core.specs.declared.mark.Mark.TheVariants as mark;
 ghost use Rattle.folder_core.specs.declared.reply.Reply.TheVariants as reply;
 ghost use Rattle.folder_core.specs.Given.{IsNoted};
-ghost use Rattle.folder_core.specs.Install.{AnswersInstall, DoesStep, HasRecord, Installs, IsNextOf, IsOperation, IsRecordOf, contents_in};
+ghost use Rattle.folder_core.specs.Install.{AnswersInstall, DoesStep, HasRecord, Installs, IsNextOf, IsOperation, IsPlanned, IsRecordOf, contents_in};
 
 use super::Machine;
 use super::adopt::kind_of;
+use super::local::step_laws;
 use crate::answer::Answer;
 use crate::{Mark, Refusal, Reply};
 use frs_base::Uid;
-use install_plan::next_step;
+use install_plan::{Agenda, next_step};
 use marshal_form::Form;
 use name_rules::{Next, Step};
 use record_db::BookCmd;
@@ -187,22 +190,56 @@ impl Machine {
         }
     }
 
-    /// What the installer does next.
-    fn next_step(&self, alloc: Global) -> Result<Next, AllocError>
-        ensures { IfOk result (λ answer. IsNextOf self.now answer) }
+    /// Does the next step, which the agenda notes as the last one. The agenda stays one of the machine.
+    fn step(
+        &mut self,
+        alloc: Global,
+        step: &Step,
+        agenda: &Option<Agenda>,
+    ) -> Result<Answer, AllocError>
+        requires next { IsNextOf self.old (next.Do step.now) }
+        requires numbers { self.old.volume.next_usn < 2 ^ 64 - 1 }
+        requires planned { IsPlanned self.old agenda.now }
+        requires last { IsLast step.now agenda.now }
+        ensures planned { IsPlanned self.new agenda.now }
+        ensures answers { IfOk result (λ answer. DoesStep step.now self.old answer.reply self.new) }
+        ensures noted { IfOk result (λ answer. IsNoted answer self.old self.new) }
+        ensures err { OnErr result (self.new ≡ self.old) }
     {
-        next_step(alloc, &self.volume, &self.book)
+        // The machine's own word that it is sound, before and after.
+        let _ = self.book();
+        step_laws();
+        let answer = self.do_step(alloc, step)?;
+        let _ = self.book();
+        Ok(answer)
     }
 
-    /// The installer takes its next step, unless a local journal record is to be consumed first.
-    pub(crate) fn install(&mut self, alloc: Global) -> Result<Answer, AllocError>
-        requires { self.old.volume.next_usn < 2 ^ 64 - 1 }
+    /// What the installer does next, by the agenda if there is one.
+    fn next_step(&self, alloc: Global, agenda: &mut Option<Agenda>) -> Result<Next, AllocError>
+        requires planned { IsPlanned self.now agenda.old }
+        ensures next { IfOk result (λ answer. IsNextOf self.now answer) }
+        ensures planned { IsPlanned self.now agenda.new }
+        ensures last { (step : Step) → result ≡ Ok (next.Do step) → IsLast step agenda.new }
+    {
+        next_step(alloc, &self.volume, &self.book, agenda)
+    }
+
+    /// The installer takes its next step, unless a local journal record is to be consumed first. An
+    /// agenda stays one of the machine.
+    pub(crate) fn install(
+        &mut self,
+        alloc: Global,
+        agenda: &mut Option<Agenda>,
+    ) -> Result<Answer, AllocError>
+        requires numbers { self.old.volume.next_usn < 2 ^ 64 - 1 }
+        requires planned { IsPlanned self.old agenda.old }
+        ensures planned { IsPlanned self.new agenda.new }
         ensures answers { IfOk result (λ answer. AnswersInstall self.old answer.reply self.new) }
         ensures noted { IfOk result (λ answer. IsNoted answer self.old self.new) }
         ensures err { OnErr result (self.new ≡ self.old) }
     {
-        match self.next_step(alloc)? {
-            Next::Do(step) => self.do_step(alloc, &step),
+        match self.next_step(alloc, agenda)? {
+            Next::Do(step) => self.step(alloc, &step, agenda),
             Next::Drained => Ok(Answer {
                 reply: Reply::Drained,
                 mark: Mark::Drained,

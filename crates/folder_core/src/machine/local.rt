@@ -33,7 +33,7 @@ fn path_laws()
 }
 
 /// What the volume promises of the steps of commands.
-fn step_laws()
+pub(super) fn step_laws()
     ensures on { StandsOn }
     ensures numbering { KeepsNumbering }
     ensures free { LeavesNumbersFree }
