@@ -1,16 +1,15 @@
 -- What the last lines print of the script that a seed makes.
-use Rattle.std.proofs.Common.{◌≡◌, ◌≤◌, ℕ, List, [], ◌∷◌, ◌++◌, refl, sym, ap, ◌∙◌, subst, arith}
+use Rattle.std.proofs.Common.{◌≡◌, [], ◌∷◌, ◌++◌, refl, sym, ap, ◌∙◌, subst, arith}
 use Rattle.std.specs.Prelude.{decimal, codes}
 use Rattle.std.proofs.lemmas.Fmt.{decimal_digit, decimal_step}
 use Rattle.std.proofs.lemmas.List.Elements.{All-append}
 use Rattle.script_lang.specs.Grammar.{IsLine}
-use Rattle.script_lang.specs.declared.line.Line.TheVariants.{Change, Consume, Pull, Remove}
+use Rattle.script_lang.specs.declared.line.Line.TheVariants.{Change, Consume, Remove}
 use Rattle.script_engine.specs.Scene.{fresh_scene}
 use Rattle.script_engine.specs.Text.{Run}
 use Rattle.script_engine.proofs.OneText.{run_one}
 use Rattle.script_engine.proofs.Runs.{runs_on}
 use Rattle.script_engine.proofs.Scenes.{fresh_scene_sound, run_keeps}
-use Rattle.dfsr.specs.Answers.{IsBigText}
 use Rattle.dfsr.specs.Big.{big_lines, counts, groups}
 use Rattle.dfsr.specs.Laws.{BigLinesAreLines, BigTextsAreOne, EveryBigPrints, GroupsAreDrawn}
 use Rattle.dfsr.proofs.Generated.{counts_valid, lines_valid}

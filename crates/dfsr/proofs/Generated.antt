@@ -1,10 +1,9 @@
 -- The generated lines are lines of the grammar, and few.
-use Rattle.std.proofs.Common.{◌≡◌, ◌<◌, ◌≤◌, ◌+◌, ◌*◌, ◌/◌, ◌%◌, ◌^◌, ℕ, zero, suc, true, List, [], ◌∷◌, ◌++◌, length, refl, sym, ap, ◌∙◌, subst, arith, codes, add-one, length-append}
+use Rattle.std.proofs.Common.{◌≡◌, ◌<◌, ◌≤◌, ◌+◌, ◌*◌, ◌/◌, ◌%◌, ◌^◌, ℕ, zero, suc, true, [], ◌∷◌, ◌++◌, length, refl, ap, ◌∙◌, arith, codes, add-one, length-append}
 use Rattle.std.specs.Prelude.{All, decimal}
 use Rattle.std.proofs.lemmas.Bool.Decides.{nat_tests}
-use Rattle.std.proofs.lemmas.List.Elements.{All-append, All-cons, All-from_recursion, All-nil}
+use Rattle.std.proofs.lemmas.List.Elements.{All-append, All-from_recursion, All-nil}
 use Rattle.std.proofs.lemmas.Fmt.{decimal_digit, decimal_step}
-use Rattle.script_lang.specs.declared.line.Line.{Line}
 use Rattle.script_lang.specs.Grammar.{IsLine, is_component, is_member_name, is_path}
 use Rattle.dfsr.specs.declared.big.lines.Peer.{Peer}
 use Rattle.dfsr.specs.declared.big.lines.Peer.TheVariants.{A, B, C}

@@ -1,6 +1,5 @@
 use Rattle.std.proofs.Common.{◌≡◌, ◌∙◌, ◌++◌, string_bytes, subst}
 use Rattle.script_engine.specs.Scene.{fresh_scene}
-use Rattle.script_engine.specs.Engines.{HasScene}
 use Rattle.dfsr.specs.Big.{counts, groups, opening, rounds}
 use Rattle.dfsr.specs.Leading.{Leads, LeadsOn}
 use Rattle.dfsr.proofs.Leading.{has_scene, has_scene_on, last_printed, lead_on, leads_on}

@@ -2,7 +2,6 @@ use Rattle.std.proofs.Common.{◌≡◌, ◌≤◌, ◌+◌, ◌∙◌, ◌++◌
 use Rattle.std.specs.Prelude.{All}
 use Rattle.script_lang.specs.declared.line.Line.{Line}
 use Rattle.script_lang.specs.Grammar.{IsLine}
-use Rattle.script_engine.specs.Engines.{HasScene}
 use Rattle.dfsr.specs.Big.{draw, group, groups, next, number_at}
 use Rattle.dfsr.specs.Leading.{LeadsOn}
 use Rattle.dfsr.proofs.Generated.{group_few, group_more, group_valid, number_more}

@@ -1,5 +1,4 @@
-use Rattle.std.proofs.Common.{◌≡◌, ◌+◌, ◌∙◌, ◌++◌, List, length, string_bytes, sym, ap, subst, arith}
-use Rattle.script_lang.specs.declared.line.Line.{Line}
+use Rattle.std.proofs.Common.{◌≡◌, ◌+◌, ◌∙◌, ◌++◌, length, string_bytes, sym, ap, subst, arith}
 use Rattle.dfsr.specs.Big.{round, rounds}
 use Rattle.dfsr.specs.Leading.{LeadsOn}
 use Rattle.dfsr.proofs.Generated.{rounds_more}

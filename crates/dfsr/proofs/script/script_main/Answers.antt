@@ -1,4 +1,4 @@
-use Rattle.std.proofs.Common.{ℕ, map}
+use Rattle.std.proofs.Common.{map}
 use Rattle.std.specs.Prelude.{string_bytes}
 use Rattle.dfsr.specs.Answers.{WritesBig, WritesSomeOfBig}
 use Rattle.dfsr.specs.Words.{AreBigWords}
