@@ -5,7 +5,9 @@ use Rattle.frs_io.specs.Told.{Takes, TakesSome}
 use Rattle.script_lang.specs.declared.line.Line.{Line}
 use Rattle.script_lang.specs.declared.line.Line.TheVariants.{Member}
 use Rattle.script_lang.specs.Script.{IsFirstBad, IsScript}
-use Rattle.script_engine.specs.Text.{Prints}
+use Rattle.script_engine.specs.Scene.{Scene, fresh_scene}
+use Rattle.script_engine.specs.Text.{Prints, Run}
+use Rattle.dfsr.specs.Big.{big_lines, counts}
 
 -- ---- causes
 
@@ -67,3 +69,21 @@ WritesBadLine bytes old new = (text : List ℕ) × IsBadLine bytes text × Takes
 -- a sink took a beginning of what is to be written of these bytes
 abbrev pub WritesSome : List ℕ → Option (List ℕ) → Option (List ℕ) → Type 0
 WritesSome bytes old new = (text : List ℕ) × IsAnswer bytes text × TakesSome old new text
+
+-- ---- the script that a seed makes
+
+-- what the last lines of a script print
+abbrev pub PrintsLast : List Line → List Line → List ℕ → Type 0
+PrintsLast before last text = (said : List ℕ) × (mid : Scene) × (new : Scene) × Run fresh_scene before said mid × Run mid last text new
+
+-- what the last three lines of the script print that a seed makes with so many groups
+abbrev pub IsBigText : ℕ → ℕ → List ℕ → Type 0
+IsBigText seed count text = PrintsLast (big_lines seed count) counts text
+
+-- a sink took that text
+abbrev pub WritesBig : ℕ → ℕ → Option (List ℕ) → Option (List ℕ) → Type 0
+WritesBig seed count old new = (text : List ℕ) × IsBigText seed count text × Takes old new text
+
+-- a sink took a beginning of it
+abbrev pub WritesSomeOfBig : ℕ → ℕ → Option (List ℕ) → Option (List ℕ) → Type 0
+WritesSomeOfBig seed count old new = (text : List ℕ) × IsBigText seed count text × TakesSome old new text

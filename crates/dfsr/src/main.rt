@@ -3,9 +3,11 @@
 //! Read [`script::script_main`] first: from the bytes of a script to the bytes that it writes.
 #![tactic(auto)]
 
+pub mod big;
 pub mod laws;
 pub mod script;
 pub mod status;
+pub mod words;
 
 use crate::script::script_main;
 use crate::status::Status;
@@ -14,14 +16,18 @@ use std::io::ErrorKind;
 use std::process::ExitCode;
 use std::{env, io};
 
-const USAGE: &str = "usage: dfsr script < SCRIPT\n";
+const USAGE: &str = "\
+usage: dfsr script < SCRIPT
+       dfsr big SEED N
+";
 
 const HELP: &str = "\
 Runs the members of a replicated folder, driven by a script.
 
 usage: dfsr script < SCRIPT
+       dfsr big SEED N
 
-Reads a script from standard input and writes what its lines print.
+The first reads a script from standard input and writes what its lines print.
 Lines, of words parted by one space:
   member M primary|plain   makes a member; M has 1 to 8 letters a to z
   put M P TEXT             gives the file P contents, or makes it; P is 1 to 64
@@ -42,6 +48,10 @@ Lines, of words parted by one space:
   sums M                   prints the sum of each file of a member's volume
   count M                  prints how much a member has
 Empty lines and lines that begin with # print nothing.
+
+The second runs a script made from SEED, below 2^64, of N groups of lines, 1 to
+20,000, and prints how much each of its three members has in the end. It reads
+nothing.
 
   --help, --version        print this text, or the version
 

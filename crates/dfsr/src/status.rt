@@ -5,7 +5,7 @@ ghost use Rattle.dfsr.specs.Codes.{code_of};
 /// How a run of a program ends.
 #[derive(Clone, Copy, Debug, PartialEq, Eq)]
 pub enum Status {
-    /// The input was read to its end, and every line was answered.
+    /// Every line was answered; where the script is read, the input was read to its end.
     Done,
     /// The words of the command line aren't those of a command.
     Usage,

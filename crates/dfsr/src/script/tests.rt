@@ -268,6 +268,7 @@ fn other_words(rt: HostRuntime) -> Result<(), Fail> {
     Ok(())
 }
 
+mod big;
 mod changes;
 mod installer;
 mod pulls;
