@@ -4,7 +4,6 @@ use Rattle.std.specs.Prelude.{[], if◌then◌else◌, IfOk, MatchBool, IsSome, 
 use Rattle.std.proofs.lemmas.Bool.Decides.{nat_tests}
 use Rattle.frs_base.specs.Versions.{same_gvsn}
 use Rattle.frs_base.specs.declared.version.Gvsn.{Gvsn}
-use Rattle.marshal_form.specs.Local.{IsLocalForm}
 use Rattle.version_vector.specs.Versions.{covers}
 use Rattle.win_order.specs.declared.update.Update.{Update}
 use Rattle.vol_state.specs.declared.record.VolRecord.{VolRecord}
@@ -42,7 +41,6 @@ use Rattle.folder_core.specs.Notes.{form_sum}
 use Rattle.folder_core.specs.Sound.{IsSound, MayBeStaged}
 use Rattle.folder_core.proofs.Fitting.{gives_way_to, is_clear, is_fit}
 use Rattle.folder_core.proofs.Held.{each_of, record_there}
-use Rattle.folder_core.proofs.Staging.{nothing_staged}
 use Rattle.folder_core.proofs.Sounding.{IsStagedOf, adopted_sound, recorded_sound}
 
 -- ---- what next_record asks for

@@ -1,10 +1,9 @@
 -- The next step of the installer may be done.
-use Rattle.std.proofs.Common.{◌≡◌, ◌≢◌, cond, ◌<◌, ◌-◌, ◌^◌, ◌&&◌, ℕ, Bool, true, false, not, eqb, List, [], Option, Some, None, Result, Ok, Err, refl, sym, ap, ◌∙◌, subst, inl, inr, arith}
+use Rattle.std.proofs.Common.{◌≡◌, ◌≢◌, cond, ◌&&◌, ℕ, Bool, true, false, not, List, [], Option, Some, None, Result, Ok, Err, refl, sym, ap, ◌∙◌, subst, inl, inr}
 use Rattle.std.specs.Prelude.{IfOk, IsSome, MatchOption, option_map}
 use Rattle.std.specs.declared.alloc.AllocError.{AllocError}
 use Rattle.frs_base.specs.Options.{In, some_is}
 use Rattle.frs_base.specs.declared.kind.Kind.TheVariants as kind
-use Rattle.frs_base.specs.declared.sum.Sum.{Sum}
 use Rattle.frs_base.specs.declared.version.Uid.{Uid}
 use Rattle.frs_base.specs.Versions.{same_uid}
 use Rattle.win_order.specs.declared.update.Update.{Update}

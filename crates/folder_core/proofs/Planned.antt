@@ -1,6 +1,6 @@
 -- An agenda stays one of the machine where the step is done that it notes as the last one.
-use Rattle.std.proofs.Common.{◌≡◌, ◌≢◌, ◌∙◌, ◌≤◌, ◌+◌, ℕ, Bool, true, false, List, Option, Some, None, refl, sym, ap, subst, inl, inr, arith}
-use Rattle.std.specs.Prelude.{◌⊎◌, find, option_map}
+use Rattle.std.proofs.Common.{◌≡◌, ◌≢◌, ◌∙◌, ◌≤◌, ℕ, true, List, Option, Some, None, refl, sym, ap, subst, inl, inr, arith}
+use Rattle.std.specs.Prelude.{find, option_map}
 use Rattle.std.proofs.lemmas.Bool.Decides.{nat_tests}
 use Rattle.frs_base.specs.Options.{In}
 use Rattle.frs_base.specs.Versions.{same_uid, uid_lt}
@@ -10,12 +10,11 @@ use Rattle.win_order.specs.declared.update.Update.{Update}
 use Rattle.vol_state.specs.declared.command.VolCmd.{VolCmd}
 use Rattle.vol_state.specs.declared.command.VolCmd.TheVariants as vol
 use Rattle.vol_state.specs.declared.object.Object.{Object}
-use Rattle.vol_state.specs.Effects.{at_place, effect, stamp, with_bytes}
+use Rattle.vol_state.specs.Effects.{effect}
 use Rattle.vol_state.specs.Maps.{Maps, StandsOn, maps_of, write}
 use Rattle.vol_state.specs.State.{State, uid_of}
-use Rattle.vol_state.specs.Tables.{IsAt, IsNew}
+use Rattle.vol_state.specs.Tables.{IsAt}
 use Rattle.record_db.specs.declared.command.BookCmd.TheVariants as book
-use Rattle.record_db.specs.Staged.{with_uid}
 use Rattle.record_db.specs.State.{BookState}
 use Rattle.record_db.proofs.Keys.{uid_cases}
 use Rattle.name_rules.specs.Next.{IsQuiet, IsThere, place_lt, place_of}

@@ -3,7 +3,6 @@ use Rattle.std.proofs.Common.{◌≡◌, ℕ, Bool, true, false, cond, List, Opt
 use Rattle.std.specs.Prelude.{find, option_map}
 use Rattle.frs_base.specs.Versions.{same_uid}
 use Rattle.frs_base.specs.declared.version.Uid.{Uid}
-use Rattle.marshal_form.specs.Local.{IsLocalForm}
 use Rattle.win_order.specs.declared.update.Update.{Update}
 use Rattle.record_db.specs.declared.staged.Staged.{Staged}
 use Rattle.record_db.specs.Staged.{staged_by, staged_with, with_uid}

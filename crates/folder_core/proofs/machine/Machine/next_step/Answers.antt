@@ -1,4 +1,3 @@
-use Rattle.folder_core.specs.Machine.{Machine}
 use Rattle.folder_core.proofs.Installing.{next_is}
 use Rattle.folder_core.proofs.machine.Machine.next_step.Goals as goal
 

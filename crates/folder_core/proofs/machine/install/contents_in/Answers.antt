@@ -1,4 +1,4 @@
-use Rattle.std.proofs.Common.{◌≡◌, ◌-◌, ℕ, List, length, min, drop, take, sym, ap, ◌∙◌}
+use Rattle.std.proofs.Common.{◌-◌, ℕ, List, length, min, drop, take, sym, ap, ◌∙◌}
 use Rattle.std.specs.Prelude.{option_copied}
 use Rattle.std.proofs.lemmas.List.{drop_min, take_rest}
 use Rattle.folder_core.specs.Install.{contents_in}
