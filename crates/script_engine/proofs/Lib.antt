@@ -1,4 +1,5 @@
 mod Texts
+mod Filled
 mod Summed
 mod Members
 mod Ordered

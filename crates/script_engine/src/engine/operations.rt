@@ -34,14 +34,28 @@ pub(super) fn copy_bytes(alloc: Global, bytes: &Bytes) -> Result<Bytes, AllocErr
     Ok(Bytes::of(Vec::from_slice(alloc, bytes.as_slice())?))
 }
 
+/// One round of the pattern.
+fn pattern(alloc: Global) -> Result<Vec<u8>, AllocError>
+    ensures { IfOk result (λ bytes. bytes.items ≡ filled 251) }
+{
+    let mut bytes = Vec::with_capacity(alloc, PATTERN as usize)?;
+    for i in 0..PATTERN {
+        bytes.push(i as u8)?;
+    }
+    Ok(bytes)
+}
+
 /// Contents of a pattern: byte i is i mod 251.
 fn filled_bytes(alloc: Global, length: u64) -> Result<Bytes, AllocError>
     ensures { IfOk result (λ bytes. bytes ≡ filled length) }
 {
+    let pattern = pattern(alloc)?;
     let mut bytes = Vec::with_capacity(alloc, length as usize)?;
-    for i in 0..length {
-        bytes.push((i % PATTERN) as u8)?;
+    for _round in 0..length / PATTERN {
+        bytes.extend_from_slice(pattern.as_slice())?;
     }
+    let rest = (length % PATTERN) as usize;
+    bytes.extend_from_slice(&pattern[..rest])?;
     Ok(Bytes::of(bytes))
 }
 
