@@ -38,22 +38,6 @@ grown() {
     }'
 }
 
-# the least processor time of five runs, in microseconds
-measured() {
-    python3 - "$dfsr" "$1" "$work/out" <<'EOF'
-import resource, subprocess, sys
-program, script, out = sys.argv[1:]
-times = []
-for _ in range(5):
-    with open(script) as given, open(out, "w") as taken:
-        before = resource.getrusage(resource.RUSAGE_CHILDREN)
-        subprocess.run([program, "script"], stdin=given, stdout=taken, check=True)
-        after = resource.getrusage(resource.RUSAGE_CHILDREN)
-        times.append(after.ru_utime + after.ru_stime - before.ru_utime - before.ru_stime)
-print(round(min(times) * 1000000))
-EOF
-}
-
 for count in 1000 4000 16000 32750; do
     in_turn $count >"$work/script"
     alone=$(measured "$work/script")
